@@ -1,0 +1,4 @@
+pub mod Lists
+pub mod Records
+pub mod Leaving
+pub mod Frames

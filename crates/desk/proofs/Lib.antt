@@ -1,0 +1,4 @@
+pub mod OrderLaws
+pub mod SetLaws
+pub mod CallLaws
+pub mod SplitLaws

@@ -1,0 +1,4 @@
+pub mod Orders
+pub mod Sets
+pub mod Calls
+pub mod Splits

@@ -1,0 +1,4 @@
+pub mod Steps
+pub mod Gaps
+pub mod Places
+pub mod Writes

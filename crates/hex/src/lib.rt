@@ -1,0 +1,3 @@
+// Bytes as hexadecimal text for people: read, with the place of each byte in the text, and written.
+mod reader;
+pub mod text;

@@ -1,0 +1,17 @@
+use native.Mathlib.Omega.{arith}
+use Rattle.layout.proofs.Runs.{none, more, stop, done}
+use Rattle.layout.proofs.cursor.Cursor.edges.Needs as need
+
+pub loop-i-holds : need.loop-i-holds
+loop-i-holds c = none _ _ _ _ _ _ (c .new-edges .ensures .items) (c .new-records .ensures .items) (c .pre .within)
+
+pub loop-i-again : need.loop-i-again
+loop-i-again c =
+    more _ _ _ _ _ _ _ _ _ (c .in-Continue-edge .edge, c .in-Continue-edge .record) _ _ (c .loop-i-test .taken) (c .loop-i .inv) (c .in-Continue-edge .ensures tt)
+    (c .in-Continue-push .ensures tt .items) (c .in-Continue-push-2 .ensures tt .items)
+
+pub returns-in-Break-edge : need.returns-in-Break-edge
+returns-in-Break-edge c = stop _ _ _ _ _ _ _ _ _ _ _ (c .loop-i-test .taken) (c .loop-i .inv) (c .in-Break-edge .ensures tt) (c .from-residual .ensures .1)
+
+pub returns : need.returns
+returns c = done _ _ _ _ _ _ _ (omega arith) (c .loop-i .inv)
