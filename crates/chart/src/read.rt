@@ -31,7 +31,7 @@ fn checked(heap: Global, bytes: &[u8]) -> Result<Chart, ReadError>
     ensures law { λ r. ⌜ Lawful (now (bytes .entry)) r ⌝ }
     ensures unambiguous { λ _. ⌜ Unambiguous ⌝ }
 {
-    match layout::read::read(heap, bytes) {
+    match reader::read::read(heap, bytes) {
         Ok(raw) => judge(heap, raw),
         Err(error) => Err(raise(error)),
     }

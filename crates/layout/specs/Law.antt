@@ -9,20 +9,14 @@ use Rattle.std.specs.declared.result.Result.the-variants.{Ok, Err}
 use Rattle.layout.specs.declared.refusal.ReadError.{ReadError}
 use Rattle.layout.specs.declared.refusal.ReadError.the-variants.{Invalid, Memory}
 use Rattle.layout.specs.declared.chart.RawChart.{RawChart}
-use Rattle.layout.specs.Reader.{Parts, got, bad, chart, node, edge}
-use Rattle.layout.specs.Records.{piece, pieces, nodePiece, edgePiece, Cut}
+use Rattle.layout.specs.Reader.{Parts, got, bad, chart}
+use Rattle.layout.specs.Records.{piece, pieces, nodePiece, edgePiece}
 use Rattle.layout.specs.Layout.{InRange, encode, all, nodeBytes, edgeBytes}
 
 abbrev pub partsOf : RawChart → Parts
 partsOf c = record { nodes = vec-items (c .nodes); edges = vec-items (c .edges) }
 
--- which parts came, each with the record that it was read from, or which refusal at which place
-pub record Walked (bs : List ℕ) (c : RawChart) : Type 0 where
-  pub value : chart bs 0 ≡ got (partsOf c) (length bs)
-  pub split : ℕ
-  pub node-parts : Cut node nodePiece bs 2 (vec-items (c .nodes)) (map piece (vec-items (c .«node_records»))) split
-  pub edge-parts : Cut (edge (length (vec-items (c .nodes)))) edgePiece bs split (vec-items (c .edges)) (map piece (vec-items (c .«edge_records»))) (length bs)
-
+-- which parts came, or which refusal at which place
 abbrev pub Exactly : List ℕ → Result RawChart ReadError → Type 0
 Exactly bs (Ok c) = chart bs 0 ≡ got (partsOf c) (length bs)
 Exactly bs (Err (Invalid e)) = chart bs 0 ≡ bad e
@@ -40,9 +34,3 @@ Parted (Ok c) =
     (map piece (vec-items (c .«node_records»)) ≡ pieces nodePiece nodeBytes 2 (vec-items (c .nodes)))
     × (map piece (vec-items (c .«edge_records»)) ≡ pieces edgePiece edgeBytes (2 + length (all nodeBytes (vec-items (c .nodes)))) (vec-items (c .edges)))
 Parted (Err e) = Unit {0}
-
--- what the walk over the bytes keeps in hand of this
-abbrev pub Walks : List ℕ → Result RawChart ReadError → Type 0
-Walks bs (Ok c) = Walked bs c
-Walks bs (Err (Invalid e)) = chart bs 0 ≡ bad e
-Walks bs (Err Memory) = Unit {0}

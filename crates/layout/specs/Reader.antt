@@ -6,10 +6,6 @@ use Prim.Native.Nat.{ℕ, zero, suc, _+_, _*_, _/_, _%_, _^_, _<_, _≤_}
 use lib.Dec.{leb, ltb, eqb}
 use lib.Count.{ones}
 use lib.ListN.{length, getD}
-use Rattle.std.specs.declared.result.Result.{Result}
-use Rattle.std.specs.declared.result.Result.the-variants.{Ok, Err}
-use Rattle.layout.specs.declared.refusal.ReadError.{ReadError}
-use Rattle.layout.specs.declared.refusal.ReadError.the-variants.{Invalid, Memory}
 use Rattle.std.specs.declared.option.Option.{Option}
 use Rattle.std.specs.declared.option.Option.the-variants.{Some, None}
 use Rattle.layout.specs.declared.parts.Node.{Node}
@@ -19,7 +15,6 @@ use Rattle.layout.specs.declared.parts.Condition.{Condition}
 use Rattle.layout.specs.declared.parts.Condition.the-variants.{Equal, AtLeast, LessThan, Absent, HoldsToken}
 use Rattle.layout.specs.declared.parts.Guard.{Guard}
 use Rattle.layout.specs.declared.parts.Guard.the-variants.{One, Two, Three, Four}
-use Rattle.layout.specs.declared.cursor.Cursor.{Cursor}
 use Rattle.layout.specs.declared.refusal.Fault.{Fault}
 use Rattle.layout.specs.declared.refusal.Fault.the-variants.{Short, Count, Map, Field, Left}
 use Rattle.layout.specs.declared.refusal.Refusal.{Refusal}
@@ -28,18 +23,6 @@ use Rattle.layout.specs.declared.refusal.Refusal.{Refusal}
 pub data Out (A : Type 0) : Type 0 where
   got : A → ℕ → Out A
   bad : Refusal → Out A
-
--- what a method of the cursor returned, with the cursor's place at the return
-abbrev pub outcome : {A : Type 0} → Result A Refusal → ℕ → Out A
-outcome (Ok v) j = got v j
-outcome (Err e) j = bad e
-
--- what a method of the cursor did: it read by p from c's place, and left the cursor as d
-pub record Reads {A : Type 0} (p : List ℕ → ℕ → Out A) (c d : Cursor) (r : Result A Refusal) : Type 0 where
-  pub same : d .bytes .now ≡ c .bytes .now
-  pub value : p (c .bytes .now) (c .place) ≡ outcome r (d .place)
-  pub ahead : c .place ≤ d .place
-  pub within : c .place ≤ length (c .bytes .now) → d .place ≤ length (c .bytes .now)
 
 abbrev pub refuse : {A : Type 0} → Fault → ℕ → Out A
 refuse f i = bad (record { fault = f; place = i })
@@ -116,11 +99,6 @@ edge n bs i =
 abbrev pub many : {A : Type 0} → (List ℕ → ℕ → Out A) → ℕ → List ℕ → ℕ → Out (List A)
 many p zero bs i = got [] i
 many p (suc k) bs i = bind (p bs i) (λ x j. bind (many p k bs j) (λ xs l. got (x ∷ xs) l))
-
--- a refusal, where memory can fail too
-abbrev pub Failed : {A : Type 0} → Out A → ReadError → Type 0
-Failed o (Invalid e) = o ≡ bad e
-Failed o Memory = Unit {0}
 
 -- a number of records, or refused
 abbrev pub count : ℕ → ℕ → List ℕ → ℕ → Out ℕ

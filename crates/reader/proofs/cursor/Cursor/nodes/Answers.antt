@@ -1,6 +1,6 @@
 use native.Mathlib.Omega.{arith}
-use Rattle.layout.proofs.Runs.{none, more, stop, done}
-use Rattle.layout.proofs.cursor.Cursor.nodes.Needs as need
+use Rattle.reader.proofs.Runs.{none, more, stop, done}
+use Rattle.reader.proofs.cursor.Cursor.nodes.Needs as need
 
 pub loop-i-holds : need.loop-i-holds
 loop-i-holds c = none _ _ _ _ _ _ (c .new-nodes .ensures .items) (c .new-records .ensures .items) (c .pre)

@@ -11,13 +11,14 @@ use Rattle.std.specs.declared.alloc.Global.{Global}
 use Rattle.std.specs.Results.{ErrBy}
 use Rattle.std.specs.declared.result.Result.{Result}
 use Rattle.std.specs.declared.result.Result.the-variants.{Ok, Err}
-use Rattle.layout.specs.declared.cursor.Cursor.{Cursor}
+use Rattle.reader.specs.declared.cursor.Cursor.{Cursor}
 use Rattle.layout.specs.declared.record.Record.{Record}
 use Rattle.layout.specs.declared.refusal.ReadError.{ReadError}
 use Rattle.layout.specs.declared.refusal.ReadError.the-variants.{Invalid}
 use Rattle.layout.specs.declared.refusal.Refusal.{Refusal}
 use Rattle.layout.specs.Reader.{Out, got, bad, bind, many}
-use Rattle.layout.specs.Records.{Piece, piece, Cut, Handed, HandedAll, HandsAll}
+use Rattle.layout.specs.Records.{Piece, piece}
+use Rattle.reader.specs.Walk.{Cut, Handed, HandedAll, HandsAll}
 
 -- what a run gives that begins with xs
 abbrev pub after : {A : Type 0} → List A → Out (List A) → Out (List A)

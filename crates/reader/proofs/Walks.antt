@@ -11,13 +11,14 @@ use Rattle.std.proofs.shelf.Lists.{take-at}
 use Rattle.std.specs.Holes.{between}
 use Rattle.std.specs.Of.Vec.{vec-items}
 use Rattle.std.specs.declared.result.Result.the-variants.{Ok}
-use Rattle.layout.specs.declared.cursor.Cursor.{Cursor}
+use Rattle.reader.specs.declared.cursor.Cursor.{Cursor}
 use Rattle.layout.specs.declared.chart.RawChart.{RawChart}
-use Rattle.layout.specs.Reader.{Out, got, bad, bind, byte, count, many, node, edge, chart, Reads}
-use Rattle.layout.specs.Records.{Piece, piece, pieces, nodePiece, edgePiece, Cut, HandedAll}
+use Rattle.layout.specs.Reader.{Out, got, bad, bind, byte, count, many, node, edge, chart}
+use Rattle.layout.specs.Records.{Piece, piece, pieces, nodePiece, edgePiece}
 use Rattle.layout.specs.Layout.{Bytes, InRange, all, nodeBytes, edgeBytes, encode}
-use Rattle.layout.specs.Law.{Walked, Parted, partsOf}
+use Rattle.layout.specs.Law.{Parted, partsOf}
 use Rattle.layout.proofs.Exact.{Exact, on, no-on, via, past, from-got, node-exact, edge-exact, accepts}
+use Rattle.reader.specs.Walk.{Cut, HandedAll, Reads, Walked}
 
 count-next : (low high : ℕ) (bs : List ℕ) (i v j : ℕ) → count low high bs i ≡ got v j → j ≡ i + 1
 count-next low high bs i v j e =

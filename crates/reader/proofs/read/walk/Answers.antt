@@ -1,6 +1,6 @@
 use native.Mathlib.Omega.{arith}
-use Rattle.layout.proofs.Walks.{walked}
-use Rattle.layout.proofs.read.walk.Needs as need
+use Rattle.reader.proofs.Walks.{walked}
+use Rattle.reader.proofs.read.walk.Needs as need
 
 pub returns : need.returns
 returns c =

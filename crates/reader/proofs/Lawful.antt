@@ -6,17 +6,18 @@ use native.Mathlib.Omega.{arith}
 use lib.ListN.{length}
 use Rattle.std.specs.declared.result.Result.{Result}
 use Rattle.std.specs.declared.result.Result.the-variants.{Ok, Err}
 use Rattle.layout.specs.declared.refusal.ReadError.{ReadError}
 use Rattle.layout.specs.declared.refusal.ReadError.the-variants.{Invalid, Memory}
 use Rattle.layout.specs.declared.refusal.Refusal.{Refusal}
 use Rattle.layout.specs.declared.chart.RawChart.{RawChart}
 use Rattle.layout.specs.Reader.{Out, got, bad, Parts}
 use Rattle.layout.specs.Layout.{Bytes}
-use Rattle.layout.specs.Law.{Walks, Exactly, Lawful, Parted, partsOf}
+use Rattle.layout.specs.Law.{Exactly, Lawful, Parted, partsOf}
 use Rattle.layout.proofs.Exact.{accepts}
 use Rattle.layout.specs.First.{First}
-use Rattle.layout.proofs.Walks as walks
+use Rattle.reader.specs.Walk.{Walks}
+use Rattle.reader.proofs.Walks as walks
 use Rattle.layout.proofs.Completions.{itemized, first-fault}
 
 never : {A : Type 0} (o : Out A) (v : A) (j : ℕ) (e : Refusal) → o ≡ got v j → o ≡ bad e → ⊥
 never o v j e p q = let z : _≡_ {A = ℕ} 0 1 = cc in omega arith

@@ -1,5 +1,5 @@
-use Rattle.layout.proofs.Lawful.{exactly, lawful, parted, first}
-use Rattle.layout.proofs.read.checked.Needs as need
+use Rattle.reader.proofs.Lawful.{exactly, lawful, parted, first}
+use Rattle.reader.proofs.read.checked.Needs as need
 
 pub returns : need.returns
 returns c =

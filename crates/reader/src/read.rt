@@ -1,13 +1,14 @@
 // Reads the records of a whole chart.
 ghost use mathlib.Core.Path.{_≡_};
 ghost use Rattle.layout.specs.First.{First};
-ghost use Rattle.layout.specs.Law.{Exactly, Lawful, Parted, Walks};
-use super::chart::RawChart;
+ghost use Rattle.layout.specs.Law.{Exactly, Lawful, Parted};
+ghost use Rattle.reader.specs.Walk.{Walks};
 use super::cursor::Cursor;
-use super::refusal::Fault;
-use super::refusal::ReadError;
-use super::refusal::ReadErrorFromRefusal;
-use super::refusal::Refusal;
+use layout::chart::RawChart;
+use layout::refusal::Fault;
+use layout::refusal::ReadError;
+use layout::refusal::ReadErrorFromRefusal;
+use layout::refusal::Refusal;
 use std::alloc::Global;
 
 // Reads the records that the bytes are, or says what is wrong with the bytes first, and where.

@@ -1,14 +1,15 @@
 // Walks the bytes of a chart, record by record and field by field.
 ghost use mathlib.Core.Path.{_≡_};
 ghost use Prim.Native.Nat.{ℕ, _<_, _≤_};
-ghost use Rattle.layout.specs.Reader.{Reads, byte as byteAt, number as numberAt, field as fieldAt, maybe, stands as standsIn, set as setAt, node as nodeAt, edge as edgeAt, condition as conditionAt, guard as guardAt, count as countAt};
-use super::parts::Condition;
-use super::parts::Guard;
-use super::parts::Node;
-use super::parts::NodeSet;
-use super::parts::RawEdge;
-use super::refusal::Fault;
-use super::refusal::Refusal;
+ghost use Rattle.reader.specs.Walk.{Reads};
+ghost use Rattle.layout.specs.Reader.{byte as byteAt, number as numberAt, field as fieldAt, maybe, stands as standsIn, set as setAt, node as nodeAt, edge as edgeAt, condition as conditionAt, guard as guardAt, count as countAt};
+use layout::parts::Condition;
+use layout::parts::Guard;
+use layout::parts::Node;
+use layout::parts::NodeSet;
+use layout::parts::RawEdge;
+use layout::refusal::Fault;
+use layout::refusal::Refusal;
 
 // The bytes of a chart, and how far they have been read.
 #[derive(Clone, Copy)]

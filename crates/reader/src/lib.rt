@@ -1,0 +1,4 @@
+// Reads the records of a chart from its bytes.
+mod cursor;
+pub mod read;
+mod records;
