@@ -9,9 +9,9 @@ use Rattle.chart.specs.declared.refusal.Refusal.{Refusal}
 use Rattle.chart.specs.declared.refusal.ReadError.{ReadError}
 use Rattle.chart.specs.declared.refusal.ReadError.TheVariants.{Refused}
 use Rattle.chart.specs.Law.{parts_of, verdict, accepted, Exactly}
-use Rattle.hex.specs.declared.text.TextError.{TextError}
-use Rattle.hex.specs.declared.text.TextError.TheVariants.{Stray, Lone, Memory}
-use Rattle.hex.specs.Meaning.{Reads}
+use Rattle.hex_text.specs.declared.text.TextError.{TextError}
+use Rattle.hex_text.specs.declared.text.TextError.TheVariants.{Stray, Lone, Memory}
+use Rattle.hex_text.specs.Meaning.{Reads}
 use Rattle.chart_text.specs.Words.{description}
 use Rattle.casework.specs.Answers.{refused_words, Told, Answers}
 

@@ -5,9 +5,9 @@ use Rattle.chart.specs.declared.chart.Chart.{Chart}
 use Rattle.chart.specs.declared.refusal.Refusal.{Refusal}
 use Rattle.chart.specs.Law.{parts_of, verdict, accepted, refused}
 use Rattle.chart.specs.Refusals.{place_of}
-use Rattle.hex.specs.declared.text.TextError.{TextError}
-use Rattle.hex.specs.declared.text.TextError.TheVariants.{Stray, Lone, Memory}
-use Rattle.hex.specs.Meaning.{meaning, position_of}
+use Rattle.hex_text.specs.declared.text.TextError.{TextError}
+use Rattle.hex_text.specs.declared.text.TextError.TheVariants.{Stray, Lone, Memory}
+use Rattle.hex_text.specs.Meaning.{meaning, position_of}
 use Rattle.chart_text.specs.Words.{description, refusal_words, position_words}
 use Rattle.casework.specs.declared.command.Command.{Command}
 use Rattle.casework.specs.declared.command.Command.TheVariants.{Check, Help}

@@ -6,7 +6,7 @@ use chart::read::read;
 use chart::refusal::{ReadError, Refusal};
 use chart_text::describe::describe;
 use chart_text::refusals::{position_words, refusal_words};
-use hex::text::{TextError, bytes_of, position_of};
+use hex_text::text::{TextError, bytes_of, position_of};
 use std::alloc::{AllocError, Global};
 
 // Why a chart is refused, and where in the file.

@@ -1,6 +1,6 @@
 // Charts on both sides of every limit, with the answer that the layout and the rules give.
 use chart::refusal::ReadError;
-use hex::text::bytes_of;
+use hex_text::text::bytes_of;
 use std::alloc::Global;
 
 // A chart file's text, and the refusal that its bytes meet: number, rule and place; number 0 where they are accepted, and

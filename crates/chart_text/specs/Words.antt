@@ -14,9 +14,9 @@ use Rattle.chart.specs.declared.rules.Rule.{Rule}
 use Rattle.chart.specs.Edges.{raw_of}
 use Rattle.chart.specs.Rules.{sourced, rule_number}
 use Rattle.chart.specs.Refusals.{number_of, place_of, rule_of}
-use Rattle.hex.specs.declared.text.Position.{Position}
-use Rattle.hex.specs.declared.text.TextError.{TextError}
-use Rattle.hex.specs.declared.text.TextError.TheVariants.{Stray, Lone, Memory}
+use Rattle.hex_text.specs.declared.text.Position.{Position}
+use Rattle.hex_text.specs.declared.text.TextError.{TextError}
+use Rattle.hex_text.specs.declared.text.TextError.TheVariants.{Stray, Lone, Memory}
 use Rattle.chart_text.specs.declared.kinds.Kind.{Kind}
 use Rattle.chart_text.specs.declared.kinds.Kind.TheVariants.{Action, Wait, Final}
 

@@ -4,7 +4,7 @@ ghost use Rattle.chart_text.specs.Words.{rule_part, refused_words, refusal_words
 
 use chart::refusal::Refusal;
 use chart::rules::Rule;
-use hex::text::{Position, TextError};
+use hex_text::text::{Position, TextError};
 use std::alloc::{AllocError, Global};
 
 fn rule_part(heap: Global, rule: Option<Rule>) -> Result<String, AllocError>

@@ -1,5 +1,5 @@
 // Both sides of each rule of hexadecimal text.
-use hex::text::{Position, TextError, bytes_of, position_of};
+use hex_text::text::{Position, TextError, bytes_of, position_of};
 use std::alloc::Global;
 use std::process::Abort;
 use std::test::Fail;

@@ -1,8 +1,8 @@
 // Reads and writes hexadecimal text.
 ghost use Rattle.std.specs.Prelude.{◌≡◌, ℕ, ◌<◌, IfOk, Ok, string_bytes};
-ghost use Rattle.hex.specs.Laws.{digit_char, hex_of, Finds, Loose};
-ghost use Rattle.hex.specs.Meaning.{Reads, meaning, position_of};
-ghost use Rattle.hex.specs.declared.text.TextError.TheVariants.{Memory};
+ghost use Rattle.hex_text.specs.Laws.{digit_char, hex_of, Finds, Loose};
+ghost use Rattle.hex_text.specs.Meaning.{Reads, meaning, position_of};
+ghost use Rattle.hex_text.specs.declared.text.TextError.TheVariants.{Memory};
 
 use super::reader::{Reader, State, Step};
 use std::alloc::{AllocError, AllocFailed, Global};

@@ -1,7 +1,7 @@
 // Goes over a hexadecimal text character by character.
 ghost use Rattle.std.specs.Prelude.{◌≡◌, ℕ, ◌+◌, ◌-◌, ◌^◌, ◌<◌};
-ghost use Rattle.hex.specs.Reader.{sign as sign_at, here as here_of, past as past_of, step as step_of, Small, SmallHalf, Counted, Sound, Kept};
-ghost use Rattle.hex.specs.Meaning.{start as start_of};
+ghost use Rattle.hex_text.specs.Reader.{sign as sign_at, here as here_of, past as past_of, step as step_of, Small, SmallHalf, Counted, Sound, Kept};
+ghost use Rattle.hex_text.specs.Meaning.{start as start_of};
 
 use super::text::{Position, TextError};
 

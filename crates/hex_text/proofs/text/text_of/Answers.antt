@@ -1,6 +1,6 @@
 use Rattle.std.proofs.Common.{ℕ, List, ◌++◌, string_bytes, ap, ◌∙◌, rules}
-use Rattle.hex.proofs.Writes.{more, all, reads-back}
-use Rattle.hex.proofs.text.text_of.Goals as goal
+use Rattle.hex_text.proofs.Writes.{more, all, reads-back}
+use Rattle.hex_text.proofs.text.text_of.Goals as goal
 
 pub loop-byte-preserved : goal.loop-byte-preserved
 loop-byte-preserved c =

@@ -2,17 +2,17 @@
 use Rattle.std.proofs.Common.{◌≡◌, ℕ, ◌+◌, ◌*◌, Bool, true, false, cond, not, ◌&&◌, eqb, ◌⊎◌, List, [], ◌∷◌, ◌++◌, Some, None, Ok, Err, Option, Result, sym, refl, ap, ◌∙◌, subst, inl, inr, ⊎_elim, append_assoc, arith}
 use Rattle.std.specs.Option.{option_map}
 use Rattle.std.specs.Result.{result_ok}
-use Rattle.hex.specs.declared.text.TextError.{TextError}
-use Rattle.hex.specs.declared.reader.Sign.{Sign}
-use Rattle.hex.specs.declared.reader.Sign.TheVariants.{Digit, Space, Hash, Other}
-use Rattle.hex.specs.declared.reader.State.{State}
-use Rattle.hex.specs.declared.reader.State.TheVariants.{Between, Half, Comment}
-use Rattle.hex.specs.declared.reader.Reader.{Reader}
-use Rattle.hex.specs.declared.reader.Step.{Step}
-use Rattle.hex.specs.declared.reader.Step.TheVariants.{Goes, Gives, Stops}
-use Rattle.hex.specs.Reader.{sign, past, step_by, step}
-use Rattle.hex.specs.Meaning.{Scan, finish, onward, scan, start, before, said, meaning}
-use Rattle.hex.specs.Laws.{idle, ahead, settled, one_line, Gap, Loose}
+use Rattle.hex_text.specs.declared.text.TextError.{TextError}
+use Rattle.hex_text.specs.declared.reader.Sign.{Sign}
+use Rattle.hex_text.specs.declared.reader.Sign.TheVariants.{Digit, Space, Hash, Other}
+use Rattle.hex_text.specs.declared.reader.State.{State}
+use Rattle.hex_text.specs.declared.reader.State.TheVariants.{Between, Half, Comment}
+use Rattle.hex_text.specs.declared.reader.Reader.{Reader}
+use Rattle.hex_text.specs.declared.reader.Step.{Step}
+use Rattle.hex_text.specs.declared.reader.Step.TheVariants.{Goes, Gives, Stops}
+use Rattle.hex_text.specs.Reader.{sign, past, step_by, step}
+use Rattle.hex_text.specs.Meaning.{Scan, finish, onward, scan, start, before, said, meaning}
+use Rattle.hex_text.specs.Laws.{idle, ahead, settled, one_line, Gap, Loose}
 
 -- what a text says, without positions
 abbrev bytes : Scan → Option (List ℕ)

@@ -2,15 +2,15 @@
 use Rattle.std.specs.Prelude.{◌≡◌, ℕ, zero, suc, Bool, true, false, List, [], ◌∷◌, ◌++◌, Some, None, Ok, Err, vec_items, Option, Result, Vec}
 use Rattle.std.specs.Option.{option_map}
 use Rattle.std.specs.declared.alloc.Global.{Global}
-use Rattle.hex.specs.declared.text.Position.{Position}
-use Rattle.hex.specs.declared.text.TextError.{TextError}
-use Rattle.hex.specs.declared.text.TextError.TheVariants.{Stray, Lone, Memory}
-use Rattle.hex.specs.declared.reader.State.{State}
-use Rattle.hex.specs.declared.reader.State.TheVariants.{Between, Half, Comment}
-use Rattle.hex.specs.declared.reader.Reader.{Reader}
-use Rattle.hex.specs.declared.reader.Step.{Step}
-use Rattle.hex.specs.declared.reader.Step.TheVariants.{Goes, Gives, Stops}
-use Rattle.hex.specs.Reader.{step}
+use Rattle.hex_text.specs.declared.text.Position.{Position}
+use Rattle.hex_text.specs.declared.text.TextError.{TextError}
+use Rattle.hex_text.specs.declared.text.TextError.TheVariants.{Stray, Lone, Memory}
+use Rattle.hex_text.specs.declared.reader.State.{State}
+use Rattle.hex_text.specs.declared.reader.State.TheVariants.{Between, Half, Comment}
+use Rattle.hex_text.specs.declared.reader.Reader.{Reader}
+use Rattle.hex_text.specs.declared.reader.Step.{Step}
+use Rattle.hex_text.specs.declared.reader.Step.TheVariants.{Goes, Gives, Stops}
+use Rattle.hex_text.specs.Reader.{step}
 
 -- a byte of the text, with the position of its first digit
 pub record Mark : Type 0 where

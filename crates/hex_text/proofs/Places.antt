@@ -2,16 +2,16 @@
 use Rattle.std.proofs.Common.{◌≡◌, ℕ, zero, suc, ◌+◌, ◌*◌, Bool, true, false, cond, eqb, ltb, ◌⊎◌, List, [], ◌∷◌, ◌++◌, length, drop, is_some, Some, None, Ok, Err, Option, Result, sym, refl, ap, ◌∙◌, subst, inl, inr, ⊎_elim, arith, MatchOption}
 use Rattle.std.specs.Option.{option_map}
 use Rattle.std.proofs.lemmas.Bool.Decides.{nat_tests}
-use Rattle.hex.specs.declared.text.Position.{Position}
-use Rattle.hex.specs.declared.text.TextError.{TextError}
-use Rattle.hex.specs.declared.reader.Sign.{Sign}
-use Rattle.hex.specs.declared.reader.Sign.TheVariants.{Digit, Space, Hash, Other}
-use Rattle.hex.specs.declared.reader.State.{State}
-use Rattle.hex.specs.declared.reader.State.TheVariants.{Between, Half, Comment}
-use Rattle.hex.specs.declared.reader.Reader.{Reader}
-use Rattle.hex.specs.Reader.{sign, here, past, step_by}
-use Rattle.hex.specs.Meaning.{Mark, Scan, finished, failed, marked, finish, onward, scan, start, before, said, meaning, nth, position_of}
-use Rattle.hex.specs.Laws.{placed, Pair, Stands, Found, Finds}
+use Rattle.hex_text.specs.declared.text.Position.{Position}
+use Rattle.hex_text.specs.declared.text.TextError.{TextError}
+use Rattle.hex_text.specs.declared.reader.Sign.{Sign}
+use Rattle.hex_text.specs.declared.reader.Sign.TheVariants.{Digit, Space, Hash, Other}
+use Rattle.hex_text.specs.declared.reader.State.{State}
+use Rattle.hex_text.specs.declared.reader.State.TheVariants.{Between, Half, Comment}
+use Rattle.hex_text.specs.declared.reader.Reader.{Reader}
+use Rattle.hex_text.specs.Reader.{sign, here, past, step_by}
+use Rattle.hex_text.specs.Meaning.{Mark, Scan, finished, failed, marked, finish, onward, scan, start, before, said, meaning, nth, position_of}
+use Rattle.hex_text.specs.Laws.{placed, Pair, Stands, Found, Finds}
 
 -- the second digit of a byte
 abbrev Second : ℕ → List ℕ → ℕ → Type 0

@@ -1,14 +1,14 @@
 -- What each character of a hexadecimal text brings.
 use Rattle.std.specs.Prelude.{ℕ, ◌+◌, ◌-◌, ◌*◌, ◌<◌, ◌≤◌, Bool, true, false, cond, ◌&&◌, ◌||◌, ◌==◌, nat_le}
-use Rattle.hex.specs.declared.text.Position.{Position}
-use Rattle.hex.specs.declared.text.TextError.TheVariants.{Stray, Lone}
-use Rattle.hex.specs.declared.reader.Sign.{Sign}
-use Rattle.hex.specs.declared.reader.Sign.TheVariants.{Digit, Space, Hash, Other}
-use Rattle.hex.specs.declared.reader.State.{State}
-use Rattle.hex.specs.declared.reader.State.TheVariants.{Between, Half, Comment}
-use Rattle.hex.specs.declared.reader.Reader.{Reader}
-use Rattle.hex.specs.declared.reader.Step.{Step}
-use Rattle.hex.specs.declared.reader.Step.TheVariants.{Goes, Gives, Stops}
+use Rattle.hex_text.specs.declared.text.Position.{Position}
+use Rattle.hex_text.specs.declared.text.TextError.TheVariants.{Stray, Lone}
+use Rattle.hex_text.specs.declared.reader.Sign.{Sign}
+use Rattle.hex_text.specs.declared.reader.Sign.TheVariants.{Digit, Space, Hash, Other}
+use Rattle.hex_text.specs.declared.reader.State.{State}
+use Rattle.hex_text.specs.declared.reader.State.TheVariants.{Between, Half, Comment}
+use Rattle.hex_text.specs.declared.reader.Reader.{Reader}
+use Rattle.hex_text.specs.declared.reader.Step.{Step}
+use Rattle.hex_text.specs.declared.reader.Step.TheVariants.{Goes, Gives, Stops}
 
 abbrev pub within : ℕ → ℕ → ℕ → Bool
 within low high c = nat_le low c && nat_le c high

@@ -1,7 +1,7 @@
-use Rattle.hex.proofs.Steps.{seek_goes, seek_gives, sought, sought_stops, sought_ends}
-use Rattle.hex.proofs.Places.{found, missed}
-use Rattle.hex.proofs.text.position_of.Goals as goal
-use Rattle.hex.proofs.text.position_of.Goals.{in-Goes, in-Gives+else-left-eq0}
+use Rattle.hex_text.proofs.Steps.{seek_goes, seek_gives, sought, sought_stops, sought_ends}
+use Rattle.hex_text.proofs.Places.{found, missed}
+use Rattle.hex_text.proofs.text.position_of.Goals as goal
+use Rattle.hex_text.proofs.text.position_of.Goals.{in-Goes, in-Gives+else-left-eq0}
 
 pub loop-character-preserved : goal.loop-character-preserved
 loop-character-preserved c =

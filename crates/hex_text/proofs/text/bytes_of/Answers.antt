@@ -1,8 +1,8 @@
 use Rattle.std.proofs.Common.{rules}
-use Rattle.hex.proofs.Gaps.{loose}
-use Rattle.hex.proofs.Steps.{goes, gives, stops, lone, whole}
-use Rattle.hex.proofs.text.bytes_of.Goals as goal
-use Rattle.hex.proofs.text.bytes_of.Goals.{in-Goes, in-Gives+in-ok-push}
+use Rattle.hex_text.proofs.Gaps.{loose}
+use Rattle.hex_text.proofs.Steps.{goes, gives, stops, lone, whole}
+use Rattle.hex_text.proofs.text.bytes_of.Goals as goal
+use Rattle.hex_text.proofs.text.bytes_of.Goals.{in-Goes, in-Gives+in-ok-push}
 
 pub loop-character-preserved : goal.loop-character-preserved
 loop-character-preserved c =

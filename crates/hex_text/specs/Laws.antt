@@ -1,17 +1,17 @@
 -- What holds of every hexadecimal text.
 use Rattle.std.specs.Prelude.{◌≡◌, ℕ, zero, suc, ◌+◌, ◌*◌, ◌/◌, ◌%◌, Bool, true, false, cond, not, ◌&&◌, ◌⊎◌, List, [], ◌∷◌, ◌++◌, length, drop, is_some, IfSome, Some, None, Ok, Err, Option, Result, ◌==◌, nat_lt}
 use Rattle.std.specs.Result.{result_ok}
-use Rattle.hex.specs.declared.text.Position.{Position}
-use Rattle.hex.specs.declared.text.TextError.{TextError}
-use Rattle.hex.specs.declared.reader.Sign.{Sign}
-use Rattle.hex.specs.declared.reader.Sign.TheVariants.{Digit}
-use Rattle.hex.specs.declared.reader.State.{State}
-use Rattle.hex.specs.declared.reader.State.TheVariants.{Between, Half, Comment}
-use Rattle.hex.specs.declared.reader.Reader.{Reader}
-use Rattle.hex.specs.declared.reader.Step.{Step}
-use Rattle.hex.specs.declared.reader.Step.TheVariants.{Goes, Gives, Stops}
-use Rattle.hex.specs.Reader.{step, sign}
-use Rattle.hex.specs.Meaning.{Mark, scan, start, meaning, nth}
+use Rattle.hex_text.specs.declared.text.Position.{Position}
+use Rattle.hex_text.specs.declared.text.TextError.{TextError}
+use Rattle.hex_text.specs.declared.reader.Sign.{Sign}
+use Rattle.hex_text.specs.declared.reader.Sign.TheVariants.{Digit}
+use Rattle.hex_text.specs.declared.reader.State.{State}
+use Rattle.hex_text.specs.declared.reader.State.TheVariants.{Between, Half, Comment}
+use Rattle.hex_text.specs.declared.reader.Reader.{Reader}
+use Rattle.hex_text.specs.declared.reader.Step.{Step}
+use Rattle.hex_text.specs.declared.reader.Step.TheVariants.{Goes, Gives, Stops}
+use Rattle.hex_text.specs.Reader.{step, sign}
+use Rattle.hex_text.specs.Meaning.{Mark, scan, start, meaning, nth}
 
 -- bytes as hexadecimal text, two digits each, the higher first
 abbrev pub digit_char : ℕ → ℕ
