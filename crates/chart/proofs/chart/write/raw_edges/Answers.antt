@@ -7,7 +7,7 @@ pub loop-edge-preserved : goal.loop-edge-preserved
 loop-edge-preserved c =
     let es = c.args.edges.now in
     let i = c.loop-edge.edge_index in
-    c.in-ok-push.ensures.items
+    c.in_ok-push.ensures.items
     ∙ ap (λ l. l ++ c.raw.result ∷ []) c.loop-edge.invariant
     ∙ ap (λ x. map raw_of (take i es) ++ x ∷ []) c.raw.ensures
     ∙ sym (map_more raw_of es i _ c.loop-edge-test.true)
