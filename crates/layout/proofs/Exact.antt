@@ -1,18 +1,17 @@
 -- A reader that agrees with an encoding, part by part.
-use Rattle.std.proofs.Common.{◌≡◌, ℕ, zero, suc, ◌+◌, ◌-◌, ◌*◌, ◌/◌, ◌%◌, ◌^◌, ◌<◌, ◌≤◌, Bool, true, false, cond, eqb, ltb, leb, List, [], ◌∷◌, ◌++◌, length, get_or, drop, is_some, Some, None, Option, sym, refl, ap, ◌∙◌, subst, ⊎_elim, append_assoc, append-nil, one-mul, zero-mul, arith, length-drop, rules, ltb-false, ltb-true, le-ltb, lt-ltb, eq-eqb, eqb-true, le-leb, leb-true}
+use Rattle.std.proofs.Common.{◌≡◌, ℕ, zero, suc, ◌+◌, ◌*◌, ◌/◌, ◌%◌, ◌^◌, ◌<◌, ◌≤◌, Bool, true, false, cond, eqb, ltb, leb, List, [], ◌∷◌, ◌++◌, length, get_or, drop, is_some, Some, None, Option, sym, refl, ap, ◌∙◌, subst, ⊎_elim, append_assoc, append-nil, one-mul, zero-mul, arith, length-drop, rules, ltb-false, ltb-true, le-ltb, lt-ltb, eq-eqb, eqb-true, le-leb, leb-true}
 use lib.Count.{ones}
 use borrow.Author.Tests.{eqb-false}
 use Rattle.std.proofs.lemmas.Nat.{shr-shr, div_below, mod_below, div-add-mod', pow_pos}
 use Rattle.std.proofs.lemmas.List.{drop_more, drop_all}
 use Rattle.std.proofs.str.Laws.{order}
-use Rattle.layout.specs.declared.refusal.Fault.{Fault}
 use Rattle.layout.specs.declared.refusal.Refusal.{Refusal}
 use Rattle.layout.specs.declared.parts.Condition.{Condition}
 use Rattle.layout.specs.declared.parts.Condition.TheVariants.{Equal, AtLeast, LessThan, Absent, HoldsToken}
 use Rattle.layout.specs.declared.parts.Guard.{Guard}
 use Rattle.layout.specs.declared.parts.Guard.TheVariants.{One, Two, Three, Four}
-use Rattle.layout.specs.Reader.{condition, guard, Out, got, bad, bind, refuse, byte, number, field, maybe, stands, set, node, edge, many, count, Parts, chart}
-use Rattle.layout.specs.Layout.{condition_bytes, guard_bytes, ConditionIn, GuardIn, conditions, wide, one, optional, flag, all, node_bytes, edge_bytes, encode, OptIn, AllIn, NodeIn, SetIn, EdgeIn, InRange, Bytes, Accepts}
+use Rattle.layout.specs.Reader.{condition, guard, Out, got, bad, bind, byte, number, field, maybe, stands, set, node, edge, many, count, Parts, chart}
+use Rattle.layout.specs.Layout.{condition_bytes, guard_bytes, ConditionIn, GuardIn, wide, one, optional, flag, all, node_bytes, edge_bytes, encode, OptIn, AllIn, NodeIn, SetIn, EdgeIn, InRange, Bytes, Accepts}
 
 pub div_zero : (v m : ℕ) → v < m → v / m ≡ 0
 div_zero v m h = let p : 0 < m = omega arith in let l = div_below v m 1 p (simp one-mul h) in omega arith

@@ -1,5 +1,5 @@
 -- Membership in a set that is kept as 32 bits.
-use Rattle.std.proofs.Common.{◌≡◌, ℕ, ◌*◌, ◌/◌, ◌%◌, ◌^◌, ◌<◌, ◌≤◌, false, eqb, ap, ◌∙◌, one-mul, arith, pow_mono}
+use Rattle.std.proofs.Common.{◌≡◌, ℕ, ◌*◌, ◌/◌, ◌%◌, ◌^◌, ◌<◌, ◌≤◌, false, eqb, ap, one-mul, arith, pow_mono}
 use Rattle.std.proofs.lemmas.Nat.{div_below, pow_pos}
 use Rattle.layout.specs.Sets.{member}
 

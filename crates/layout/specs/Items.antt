@@ -6,7 +6,7 @@ use Rattle.layout.specs.declared.parts.RawEdge.{RawEdge}
 use Rattle.layout.specs.declared.parts.Condition.{Condition}
 use Rattle.layout.specs.declared.parts.Guard.{Guard}
 use Rattle.layout.specs.declared.refusal.Fault.{Fault}
-use Rattle.layout.specs.declared.refusal.Fault.TheVariants.{Short, Count, Map, Field, Left}
+use Rattle.layout.specs.declared.refusal.Fault.TheVariants.{Count, Map, Field}
 use Rattle.layout.specs.Reader.{Parts}
 use Rattle.layout.specs.Layout.{one, wide, flag, optional, all, conditions, condition_bytes, edge_map_of, ConditionIn, SetIn}
 

@@ -1,5 +1,5 @@
 -- Reading: what stands at a place of the bytes, and the place after it; or the refusal.
-use Rattle.std.specs.Prelude.{◌≡◌, ℕ, zero, suc, ◌+◌, ◌*◌, ◌/◌, ◌%◌, ◌^◌, ◌<◌, ◌≤◌, Bool, true, false, cond, List, [], ◌∷◌, length, Some, None, Option, ◌==◌, count_ones, nat_le, nat_lt, slice_index}
+use Rattle.std.specs.Prelude.{ℕ, zero, suc, ◌+◌, ◌*◌, ◌/◌, ◌%◌, ◌^◌, Bool, true, false, cond, List, [], ◌∷◌, length, Some, None, Option, ◌==◌, count_ones, nat_le, nat_lt, slice_index}
 use Rattle.layout.specs.declared.parts.Node.{Node}
 use Rattle.layout.specs.declared.parts.NodeSet.{NodeSet}
 use Rattle.layout.specs.declared.parts.RawEdge.{RawEdge}

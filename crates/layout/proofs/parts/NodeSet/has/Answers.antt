@@ -1,4 +1,4 @@
-use Rattle.std.proofs.Common.{sym, refl, ◌∙◌, arith, le-ltb}
+use Rattle.std.proofs.Common.{sym, ◌∙◌, arith, le-ltb}
 use Rattle.layout.proofs.Sets.{none_above}
 use Rattle.layout.proofs.parts.NodeSet.has.Goals as goal
 
