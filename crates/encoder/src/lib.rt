@@ -1,4 +1,6 @@
 // Writes a chart: its nodes and edges to bytes.
+#![tactic(auto)]
+
 ghost use Rattle.std.specs.Prelude.{◌≡◌, ◌∷◌};
 ghost use Rattle.layout.specs.Layout.{one, wide, optional, all, node_bytes, condition_bytes, guard_bytes, edge_bytes, edge_map_of};
 ghost use Rattle.encoder.specs.Writer.{Appends, Writes};

@@ -1,5 +1,5 @@
 -- The position that is found of a byte is where its first digit stands.
-use Rattle.std.proofs.Common.{◌≡◌, ℕ, zero, suc, ◌+◌, ◌*◌, Bool, true, false, cond, eqb, ltb, ◌⊎◌, List, [], ◌∷◌, ◌++◌, length, drop, is_some, Some, None, Ok, Err, Option, Result, sym, refl, ap, ◌∙◌, subst, inl, inr, ⊎_elim, arith, MatchOption}
+use Rattle.std.proofs.Common.{◌≡◌, ℕ, zero, suc, ◌+◌, ◌*◌, Bool, true, false, cond, eqb, ltb, ◌⊎◌, List, [], ◌∷◌, length, is_some, Some, None, Ok, Err, Option, Result, sym, refl, ap, ◌∙◌, inl, inr, ⊎_elim, arith}
 use Rattle.std.specs.Option.{option_map}
 use Rattle.std.proofs.lemmas.Bool.Decides.{nat_tests}
 use Rattle.hex_text.specs.declared.text.Position.{Position}
@@ -10,8 +10,8 @@ use Rattle.hex_text.specs.declared.reader.State.{State}
 use Rattle.hex_text.specs.declared.reader.State.TheVariants.{Between, Half, Comment}
 use Rattle.hex_text.specs.declared.reader.Reader.{Reader}
 use Rattle.hex_text.specs.Reader.{sign, here, past, step_by}
-use Rattle.hex_text.specs.Meaning.{Mark, Scan, finished, failed, marked, finish, onward, scan, start, before, said, meaning, nth, position_of}
-use Rattle.hex_text.specs.Laws.{placed, Pair, Stands, Found, Finds}
+use Rattle.hex_text.specs.Meaning.{Mark, Scan, finished, failed, marked, finish, onward, scan, start, before, said, nth, position_of}
+use Rattle.hex_text.specs.Laws.{placed, Pair, Stands, Finds}
 
 -- the second digit of a byte
 abbrev Second : ℕ → List ℕ → ℕ → Type 0

@@ -1,5 +1,5 @@
 -- One turn of the loops over a text.
-use Rattle.std.proofs.Common.{◌≡◌, ℕ, zero, suc, ◌+◌, ◌-◌, ◌<◌, ◌≤◌, ◌⊎◌, List, [], ◌∷◌, ◌++◌, length, get_or, drop, Some, None, Ok, Err, vec_items, Result, Vec, sym, refl, ap, ◌∙◌, subst, ⊎_elim, append_assoc, append-nil, arith}
+use Rattle.std.proofs.Common.{◌≡◌, ℕ, zero, suc, ◌+◌, ◌-◌, ◌<◌, ◌≤◌, ◌⊎◌, List, [], ◌∷◌, ◌++◌, length, get_or, drop, Some, None, Ok, Err, vec_items, Result, Vec, sym, refl, ap, ◌∙◌, ⊎_elim, append_assoc, append-nil, arith}
 use Rattle.std.proofs.lemmas.List.{at_drop_more, at_drop_all}
 use Rattle.std.specs.declared.alloc.Global.{Global}
 use Rattle.hex_text.specs.declared.text.Position.{Position}
@@ -11,7 +11,7 @@ use Rattle.hex_text.specs.declared.reader.Reader.{Reader}
 use Rattle.hex_text.specs.declared.reader.Step.{Step}
 use Rattle.hex_text.specs.declared.reader.Step.TheVariants.{Goes, Gives, Stops}
 use Rattle.hex_text.specs.Reader.{step, Sound}
-use Rattle.hex_text.specs.Meaning.{Mark, Scan, failed, marked, finish, onward, scan, start, before, said, meaning, Reads, nth}
+use Rattle.hex_text.specs.Meaning.{Mark, Scan, marked, finish, onward, scan, start, before, said, meaning, Reads, nth}
 
 -- what is left, once the next character's step is known
 pub turn : (text : List ℕ) (i : ℕ) (r : Reader) (s : Step) → i < length text → s ≡ step r (get_or text i 0) → scan r (drop i text) ≡ onward s (λ q. scan q (drop (i + 1) text))

@@ -1,14 +1,13 @@
 -- Bytes written as hexadecimal text, and read back.
-use Rattle.std.proofs.Common.{◌≡◌, ℕ, zero, suc, ◌+◌, ◌*◌, ◌/◌, ◌%◌, ◌<◌, ◌≤◌, Bool, true, false, cond, eqb, ltb, leb, List, [], ◌∷◌, ◌++◌, length, get_or, take, Ok, Err, Result, sym, refl, ap, ◌∙◌, subst, append_assoc, append-nil, arith}
+use Rattle.std.proofs.Common.{◌≡◌, ℕ, suc, ◌+◌, ◌*◌, ◌/◌, ◌%◌, ◌<◌, ◌≤◌, List, [], ◌∷◌, ◌++◌, length, get_or, take, Ok, sym, refl, ap, ◌∙◌, append_assoc, arith}
 use Rattle.std.proofs.lemmas.List.{take_more, take_all}
 use Rattle.std.proofs.lemmas.Bool.Decides.{nat_tests}
 use Rattle.hex_text.specs.declared.reader.Sign.{Sign}
 use Rattle.hex_text.specs.declared.reader.Sign.TheVariants.{Digit}
-use Rattle.hex_text.specs.declared.reader.State.{State}
-use Rattle.hex_text.specs.declared.reader.State.TheVariants.{Between, Half, Comment}
+use Rattle.hex_text.specs.declared.reader.State.TheVariants.{Between, Half}
 use Rattle.hex_text.specs.declared.reader.Reader.{Reader}
 use Rattle.hex_text.specs.Reader.{sign, here, past, step_by}
-use Rattle.hex_text.specs.Meaning.{onward, scan, start, before, said, meaning}
+use Rattle.hex_text.specs.Meaning.{onward, scan, before, said, meaning}
 use Rattle.hex_text.specs.Laws.{digit_char, hex_of}
 
 hex_append : (xs ys : List ℕ) → hex_of (xs ++ ys) ≡ hex_of xs ++ hex_of ys

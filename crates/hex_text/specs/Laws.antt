@@ -1,9 +1,7 @@
 -- What holds of every hexadecimal text.
-use Rattle.std.specs.Prelude.{◌≡◌, ℕ, zero, suc, ◌+◌, ◌*◌, ◌/◌, ◌%◌, Bool, true, false, cond, not, ◌&&◌, ◌⊎◌, List, [], ◌∷◌, ◌++◌, length, drop, is_some, IfSome, Some, None, Ok, Err, Option, Result, ◌==◌, nat_lt}
+use Rattle.std.specs.Prelude.{◌≡◌, ℕ, zero, suc, ◌+◌, ◌*◌, ◌/◌, ◌%◌, Bool, true, false, cond, not, ◌&&◌, ◌⊎◌, List, [], ◌∷◌, ◌++◌, length, drop, is_some, IfSome, Some, Ok, Option, ◌==◌, nat_lt}
 use Rattle.std.specs.Result.{result_ok}
 use Rattle.hex_text.specs.declared.text.Position.{Position}
-use Rattle.hex_text.specs.declared.text.TextError.{TextError}
-use Rattle.hex_text.specs.declared.reader.Sign.{Sign}
 use Rattle.hex_text.specs.declared.reader.Sign.TheVariants.{Digit}
 use Rattle.hex_text.specs.declared.reader.State.{State}
 use Rattle.hex_text.specs.declared.reader.State.TheVariants.{Between, Half, Comment}

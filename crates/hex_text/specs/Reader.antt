@@ -1,5 +1,5 @@
 -- What each character of a hexadecimal text brings.
-use Rattle.std.specs.Prelude.{ℕ, ◌+◌, ◌-◌, ◌*◌, ◌<◌, ◌≤◌, Bool, true, false, cond, ◌&&◌, ◌||◌, ◌==◌, nat_le}
+use Rattle.std.specs.Prelude.{ℕ, ◌+◌, ◌-◌, ◌*◌, ◌<◌, ◌≤◌, Bool, cond, ◌&&◌, ◌||◌, ◌==◌, nat_le}
 use Rattle.hex_text.specs.declared.text.Position.{Position}
 use Rattle.hex_text.specs.declared.text.TextError.TheVariants.{Stray, Lone}
 use Rattle.hex_text.specs.declared.reader.Sign.{Sign}

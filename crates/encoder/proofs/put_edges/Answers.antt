@@ -4,7 +4,7 @@ use Rattle.encoder.proofs.Steps.{more, done}
 use Rattle.encoder.proofs.put_edges.Goals as goal
 
 pub loop-edge-preserved : goal.loop-edge-preserved
-loop-edge-preserved c = more edge_bytes c.args.edges.now c.loop-edge.edge_index _ (vec_items c.args.out.now) c.loop-edge-test.true c.loop-edge.invariant c.in-ok-put-edge.ensures
+loop-edge-preserved c = more edge_bytes c.args.edges.now c.loop-edge.edge-index _ (vec_items c.args.out.now) c.loop-edge-test.true c.loop-edge.invariant c.in_ok-put_edge.ensures
 
 pub returns : goal.returns
-returns c = done edge_bytes c.args.edges.now c.loop-edge.edge_index (vec_items c.args.out.now) c.loop-edge-test.false c.loop-edge.invariant
+returns c = done edge_bytes c.args.edges.now c.loop-edge.edge-index (vec_items c.args.out.now) c.loop-edge-test.false c.loop-edge.invariant

@@ -1,4 +1,4 @@
-use Rattle.std.proofs.Common.{◌≡◌, ◌++◌, take, string_bytes}
+use Rattle.std.proofs.Common.{◌≡◌, take, string_bytes}
 use Rattle.hex_text.specs.Laws.{hex_of}
 use Rattle.hex_text.proofs.text.text_of.Given as goal
 
