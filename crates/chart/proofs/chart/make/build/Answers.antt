@@ -11,10 +11,10 @@ returns-in-Some c = breached (vec_items c.args.nodes) c.deref-2.result.now c.arg
 pub edges_of-requires : goal.edges_of-requires
 edges_of-requires c = rules_kept (vec_items c.args.nodes) c.deref-2.result.now c.args.edges.now c.deref-2.ensures.value c.in_default.ensures OneCause
 
-pub invariant-of-result : goal.invariant-of-result
-invariant-of-result c =
+pub invariant_of-result : goal.invariant_of-result
+invariant_of-result c =
     let g = lasting (vec_items c.args.nodes) c.deref-2.result.now c.args.edges.now c.deref-2.ensures.value c.deref.result.now (vec_items c.in-Ok.edges) c.deref.ensures.value c.if-not-in_range.ensures c.in_default.ensures c.in-Ok.ensures in
-    (g.0, (g.1, tt))
+    record { in_range = g.0; keeps = g.1 }
 
 pub returns : goal.returns
 returns c =
