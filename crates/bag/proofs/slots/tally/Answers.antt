@@ -2,15 +2,15 @@ use Rattle.std.proofs.Common.{count_by, sym, ap, ◌∙◌, arith}
 use Rattle.std.proofs.lemmas.List.{take_all}
 use Rattle.std.proofs.lemmas.List.Sums.{count_by_more_yes, count_by_more_no}
 use Rattle.bag.proofs.slots.tally.Goals as goal
-use Rattle.bag.proofs.slots.tally.Goals.{then-has-tag, else-has-tag}
+use Rattle.bag.proofs.slots.tally.Goals.{then-has_tag, else-has_tag}
 
 pub loop-y-preserved : goal.loop-y-preserved
 loop-y-preserved g c =
     let p = g.R.Tagged.tagged c.args.tag in
     let read = ap p (sym c.y-item.is) in
-    elim c.if-has-tag.branch [
-      | then-has-tag w ↦ (omega (arith, w.n-is), w.n-is ∙ omega (arith, count_by_more_yes p c.args.records.now c.loop-y.y-index c.y-item.result c.loop-y-test.true (read ∙ sym w.if-has-tag.ensures)))
-      | else-has-tag w ↦ (omega (arith, w.n-is), w.n-is ∙ omega (arith, count_by_more_no p c.args.records.now c.loop-y.y-index c.y-item.result c.loop-y-test.true (read ∙ sym w.if-has-tag.ensures)))
+    elim c.if-has_tag.branch [
+      | then-has_tag w ↦ (omega (arith, w.n-is), w.n-is ∙ omega (arith, count_by_more_yes p c.args.records.now c.loop-y.y-index c.y-item.result c.loop-y-test.true (read ∙ sym w.if-has_tag.ensures)))
+      | else-has_tag w ↦ (omega (arith, w.n-is), w.n-is ∙ omega (arith, count_by_more_no p c.args.records.now c.loop-y.y-index c.y-item.result c.loop-y-test.true (read ∙ sym w.if-has_tag.ensures)))
     ]
 
 pub returns : goal.returns
