@@ -1,6 +1,6 @@
 -- The order of leaving is kept by putting and taking. Assumes nothing.
 use Rattle.std.proofs.Common.{◌≡◌, ℕ, ◌+◌, Bool, true, false, cond, not, ◌&&◌, List, [], ◌∷◌, ◌++◌, length, Some, None, count_by, filter, Option, sym, refl, ap, ◌∙◌, subst, ⊎_elim, arith}
-use Rattle.std.specs.List.{AllByRecursion as All}
+use Rattle.std.specs.List.{AllByRecursion}
 use Rattle.std.proofs.lemmas.List.{append-nil}
 use Rattle.std.proofs.lemmas.List.Elements.{filter-append}
 use Rattle.std.proofs.ByRecursion.{All-weaker, All-append, all_kept_by}
@@ -20,15 +20,15 @@ not_counted true h = absurd (omega arith)
 not_counted false h = refl
 
 module _ {R : Type 0} where
-  all_both : (P Q S : R → Type 0) → ((x : R) → P x → Q x → S x) → (xs : List R) → All P xs → All Q xs → All S xs
+  all_both : (P Q S : R → Type 0) → ((x : R) → P x → Q x → S x) → (xs : List R) → AllByRecursion P xs → AllByRecursion Q xs → AllByRecursion S xs
   all_both P Q S f [] a b = tt
   all_both P Q S f (x ∷ xs) a b = (f x a.0 b.0, all_both P Q S f xs a.1 b.1)
 
-  all_left : (P : R → Type 0) (xs ys : List R) → All P (xs ++ ys) → All P xs
+  all_left : (P : R → Type 0) (xs ys : List R) → AllByRecursion P (xs ++ ys) → AllByRecursion P xs
   all_left P [] ys a = tt
   all_left P (x ∷ xs) ys a = (a.0, all_left P xs ys a.1)
 
-  all_right : (P : R → Type 0) (xs ys : List R) → All P (xs ++ ys) → All P ys
+  all_right : (P : R → Type 0) (xs ys : List R) → AllByRecursion P (xs ++ ys) → AllByRecursion P ys
   all_right P [] ys a = a
   all_right P (x ∷ xs) ys a = all_right P xs ys a.1
 
@@ -38,7 +38,7 @@ module _ {R : Type 0} where
       ap (λ l. cond (p x) (x ∷ l) l) (kept_same p q same xs) ∙ ap (λ b. cond b (x ∷ filter q xs) (filter q xs)) (same x)
 
   module _ (p : R → Bool) where
-    kept-none : (xs : List R) → All (λ x. p x ≡ false) xs → filter p xs ≡ []
+    kept-none : (xs : List R) → AllByRecursion (λ x. p x ≡ false) xs → filter p xs ≡ []
     kept-none [] a = refl
     kept-none (x ∷ xs) a = cond-false (p x) _ _ a.0 ∙ kept-none xs a.1
 
@@ -50,12 +50,12 @@ module _ {R : Type 0} where
     kept_there us x vs e = filter-append p us (x ∷ vs) ∙ ap (λ l. filter p us ++ l) (cond-true (p x) _ _ e)
 
     -- what holds of all that a filter keeps
-    all_from_kept : (Q : R → Type 0) (xs : List R) → All Q (filter p xs) → All (λ x. p x ≡ true → Q x) xs
+    all_from_kept : (Q : R → Type 0) (xs : List R) → AllByRecursion Q (filter p xs) → AllByRecursion (λ x. p x ≡ true → Q x) xs
     all_from_kept Q [] a = tt
     all_from_kept Q (x ∷ xs) a =
         ⊎_elim
-        (λ e. let b : All Q (x ∷ filter p xs) = subst (All Q) (cond-true (p x) _ _ e) a in (λ _. b.0, all_from_kept Q xs b.1))
-        (λ e. let b : All Q (filter p xs) = subst (All Q) (cond-false (p x) _ _ e) a in (λ t. absurd (both_ways (p x) e t), all_from_kept Q xs b))
+        (λ e. let b : AllByRecursion Q (x ∷ filter p xs) = subst (AllByRecursion Q) (cond-true (p x) _ _ e) a in (λ _. b.0, all_from_kept Q xs b.1))
+        (λ e. let b : AllByRecursion Q (filter p xs) = subst (AllByRecursion Q) (cond-false (p x) _ _ e) a in (λ t. absurd (both_ways (p x) e t), all_from_kept Q xs b))
         (cases_Bool (p x))
 
     pub count_cons : (x : R) (xs : List R) → count_by p (x ∷ xs) ≡ cond (p x) 1 0 + count_by p xs
@@ -65,14 +65,14 @@ module _ {R : Type 0} where
     count-there us x vs =
         omega (arith, sum_by-append (λ y. cond (p y) 1 0) us (x ∷ vs), sum_by-append (λ y. cond (p y) 1 0) us vs, count_cons x vs)
 
-    none_from_count : (xs : List R) → count_by p xs ≡ 0 → All (λ x. p x ≡ false) xs
+    none_from_count : (xs : List R) → count_by p xs ≡ 0 → AllByRecursion (λ x. p x ≡ false) xs
     none_from_count [] h = tt
     none_from_count (x ∷ xs) h =
         let c = count_cons x xs in
         let zero : cond {A = ℕ} (p x) 1 0 ≡ 0 = omega arith in
         (not_counted (p x) zero, none_from_count xs (omega arith))
 
-    count_from_none : (xs : List R) → All (λ x. p x ≡ false) xs → count_by p xs ≡ 0
+    count_from_none : (xs : List R) → AllByRecursion (λ x. p x ≡ false) xs → count_by p xs ≡ 0
     count_from_none [] a = refl
     count_from_none (x ∷ xs) a =
         let rest = count_from_none xs a.1 in
@@ -87,7 +87,7 @@ module _ {R : Type 0} where
   count_any xs puts same = sym (count-all xs) ∙ same any ∙ count-all puts
 
   -- a test that the list's records fail fails of the same records in another order
-  all_moved : (xs puts : List R) → ((q : R → Bool) → count_by q xs ≡ count_by q puts) → (q : R → Bool) → All (λ x. q x ≡ false) xs → All (λ x. q x ≡ false) puts
+  all_moved : (xs puts : List R) → ((q : R → Bool) → count_by q xs ≡ count_by q puts) → (q : R → Bool) → AllByRecursion (λ x. q x ≡ false) xs → AllByRecursion (λ x. q x ≡ false) puts
   all_moved xs puts same q a = none_from_count q puts (sym (same q) ∙ count_from_none q xs a)
 
 -- a list at one of the records that a filter keeps
@@ -131,11 +131,11 @@ record Parted {R : Type 0} (p : R → Bool) (xs : List R) (x : R) (ys : List R) 
   pub back : List R
   pub were : xs ≡ front ++ (x ∷ back)
   pub stay : ys ≡ front ++ back
-  pub fail : All (λ y. p y ≡ false) front
+  pub fail : AllByRecursion (λ y. p y ≡ false) front
   pub passes : p x ≡ true
 
 abbrev FirstOf : {R : Type 0} → (R → Bool) → List R → Option R → List R → Type 0
-FirstOf p xs None ys = All (λ y. p y ≡ false) xs × (ys ≡ xs)
+FirstOf p xs None ys = AllByRecursion (λ y. p y ≡ false) xs × (ys ≡ xs)
 FirstOf p xs (Some x) ys = Parted p xs x ys
 
 module _ {R : Type 0} (p : R → Bool) where
@@ -183,14 +183,14 @@ module _ {R : Type 0} (before : R → R → Bool) (asymmetric : (x y : R) → be
       let ahead : before y r ≡ before y x = bool_same _ _ (λ h. transitive x r y rx h) (λ h. transitive r x y xr h) in
       ap (λ b. not b && not (before y r)) behind ∙ ap (λ b. not (before x y) && not b) ahead
 
-  none-all : (x : R) (xs : List R) → none_before before x xs ≡ true → All (λ y. before y x ≡ false) xs
+  none-all : (x : R) (xs : List R) → none_before before x xs ≡ true → AllByRecursion (λ y. before y x ≡ false) xs
   none-all x [] a = tt
   none-all x (y ∷ ys) a =
       let parts = and_parts (not (before y x)) (none_before before x ys) a in
       (not-true _ parts.0, none-all x ys parts.1)
 
   -- in a list in order no record ranks before one that stands in front of it
-  none_behind : (us : List R) (x : R) (vs : List R) → in_order before (us ++ (x ∷ vs)) ≡ true → All (λ y. before y x ≡ false) vs
+  none_behind : (us : List R) (x : R) (vs : List R) → in_order before (us ++ (x ∷ vs)) ≡ true → AllByRecursion (λ y. before y x ≡ false) vs
   none_behind [] x vs o = none-all x vs (and_parts (none_before before x vs) (in_order before vs) o).0
   none_behind (u ∷ us) x vs o = none_behind us x vs (and_parts (none_before before u (us ++ (x ∷ vs))) (in_order before (us ++ (x ∷ vs))) o).1
 
@@ -204,7 +204,7 @@ module _ {R : Type 0} (before : R → R → Bool) (asymmetric : (x y : R) → be
         [ true ↦ omega (arith, count_cons q x (y ∷ ys)) | false ↦ omega (arith, count_cons q y (put_in before x ys)) ]
 
     -- where x ranks before y, and none of zs before y, no record of zs has the rank of x
-    none_equal : (y : R) (zs : List R) → before x y ≡ true → All (λ z. before z y ≡ false) zs → All (λ z. same_rank before x z ≡ false) zs
+    none_equal : (y : R) (zs : List R) → before x y ≡ true → AllByRecursion (λ z. before z y ≡ false) zs → AllByRecursion (λ z. same_rank before x z ≡ false) zs
     none_equal y zs t a = All-weaker (λ z. before z y ≡ false) (λ z. same_rank before x z ≡ false) (λ z h.
         and_left _ _ (not_from_true _ (⊎_elim (λ e. e) (λ e. absurd (both_ways (before x y) (transitive y z x h e) t)) (cases_Bool (before x z))))) zs a
 
@@ -238,7 +238,7 @@ module _ {R : Type 0} (before : R → R → Bool) (asymmetric : (x y : R) → be
     }
 
     -- by a test that none else passes
-    first_put : (p : R → Bool) (xs : List R) → p x ≡ true → All (λ y. p y ≡ false) xs
+    first_put : (p : R → Bool) (xs : List R) → p x ≡ true → AllByRecursion (λ y. p y ≡ false) xs
         → (first_with p (put_in before x xs) ≡ Some x) × (without_first p (put_in before x xs) ≡ xs)
     first_put p [] t a = (cond-true (p x) _ _ t, cond-true (p x) _ _ t)
     first_put p (y ∷ ys) t a =
@@ -284,18 +284,18 @@ module _ {R : Type 0} (before : R → R → Bool) (asymmetric : (x y : R) → be
       at_put = cut level puts _ x _ (sym (a.equals x) ∙ ap (filter level) f.were ∙ kept_there level f.front x f.back (own_rank x))
 
       -- of the records that pass none is lower
-      passing : All (λ y. (p y && before y x) ≡ false) puts
+      passing : AllByRecursion (λ y. (p y && before y x) ≡ false) puts
       passing =
           let o : in_order before (f.front ++ (x ∷ f.back)) ≡ true = subst (λ l. in_order before l ≡ true) f.were a.ordered in
           let behind = All-weaker (λ y. before y x ≡ false) (λ y. (p y && before y x) ≡ false) (λ y h. and_right _ _ h) f.back (none_behind f.front x f.back o) in
           let front = All-weaker (λ y. p y ≡ false) (λ y. (p y && before y x) ≡ false) (spared x) f.front f.fail in
           let whole = All-append (λ y. (p y && before y x) ≡ false) f.front (x ∷ f.back) front (and_right _ _ (itself x), behind) in
-          all_moved xs puts a.records (λ y. p y && before y x) (subst (All (λ y. (p y && before y x) ≡ false)) (sym f.were) whole)
+          all_moved xs puts a.records (λ y. p y && before y x) (subst (AllByRecursion (λ y. (p y && before y x) ≡ false)) (sym f.were) whole)
 
       leaves : Leaves before p puts x (at_put.front ++ at_put.back)
       leaves =
-          let there = subst (All (λ y. (p y && before y x) ≡ false)) at_put.is passing in
-          let fail = subst (All (λ y. p y ≡ false)) (sym at_put.front_kept) (all_kept_by level (λ y. p y ≡ false) f.front f.fail) in
+          let there = subst (AllByRecursion (λ y. (p y && before y x) ≡ false)) at_put.is passing in
+          let fail = subst (AllByRecursion (λ y. p y ≡ false)) (sym at_put.front_kept) (all_kept_by level (λ y. p y ≡ false) f.front f.fail) in
           let behind = all_right (λ y. (p y && before y x) ≡ false) at_put.front (x ∷ at_put.back) there in
           record {
             earlier = at_put.front;

@@ -8,7 +8,7 @@ held b = take b.count.now b.slots.now
 
 -- the bag `c` is over the slots and the count of `b`; a count within the slots stays within
 pub record Framed {R : Type 0} (b c : Bag R) : Type 0 where
-  pub slots : c.slots.name ≡ b.slots.name
-  pub count : c.count.name ≡ b.count.name
+  pub slots : c.slots.ghost_name ≡ b.slots.ghost_name
+  pub count : c.count.ghost_name ≡ b.count.ghost_name
   pub long : length c.slots.now ≡ length b.slots.now
   pub fits : b.count.now ≤ length b.slots.now → c.count.now ≤ length c.slots.now

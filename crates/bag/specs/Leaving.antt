@@ -1,6 +1,6 @@
 -- In which order records leave, by the order in which they were put. A list `puts` has the records of a bag in the order of putting.
 use Rattle.std.specs.Prelude.{◌≡◌, ℕ, ◌+◌, Bool, true, false, cond, not, ◌&&◌, List, [], ◌∷◌, ◌++◌, Some, None, count_by, filter, Option}
-use Rattle.std.specs.List.{AllByRecursion as All}
+use Rattle.std.specs.List.{AllByRecursion}
 use Rattle.bag.specs.Records.{none_before, in_order, first_with, without_first}
 
 -- whether neither record has the lower rank
@@ -21,12 +21,12 @@ pub record Leaves {R : Type 0} (before : R → R → Bool) (p : R → Bool) (put
   pub were : puts ≡ earlier ++ (x ∷ later)
   pub stay : rest ≡ earlier ++ later
   pub passes : p x ≡ true
-  pub higher : All (λ y. p y ≡ true → before x y ≡ true) earlier
-  pub no_lower : All (λ y. p y ≡ true → before y x ≡ false) later
+  pub higher : AllByRecursion (λ y. p y ≡ true → before x y ≡ true) earlier
+  pub no_lower : AllByRecursion (λ y. p y ≡ true → before y x ≡ false) later
 
 -- what a taking by the test `p` answers, and what stays
 abbrev pub Taken : {R : Type 0} → (R → R → Bool) → (R → Bool) → List R → Option R → List R → Type 0
-Taken before p puts None rest = All (λ y. p y ≡ false) puts × (rest ≡ puts)
+Taken before p puts None rest = AllByRecursion (λ y. p y ≡ false) puts × (rest ≡ puts)
 Taken before p puts (Some x) rest = Leaves before p puts x rest
 
 -- the test that every record passes

@@ -1,4 +1,6 @@
 // A bag of records over slots that its holder provides.
+#![tactic(auto)]
+
 ghost use Rattle.std.specs.Prelude.{◌≡◌, ◌+◌, ◌-◌, ◌≤◌, true, false, length, take, drop, is_some, is_ok, if◌then◌else◌, count_by, nat_lt};
 ghost use Rattle.bag.specs.Records.{put_in, head_of, tail_of, first_with, without_first};
 ghost use Rattle.bag.specs.Leaving.{any, FirstLaw, PutLaw, TakeLaw};
@@ -14,14 +16,14 @@ mod slots;
 // The next record to leave, for a holder that has the slots by a shared reference.
 pub fn first<R: Ranked>(slots: &[R], count: usize) -> Option<R>
     ensures found { result ≡ head_of (take count slots.now) }
-    ensures law { FirstLaw before (take count slots.now) result }
+    ensures law { FirstLaw R.before (take count slots.now) result }
 {
     slots::first(slots, count)
 }
 
 // How many records have the tag, for a holder that has the slots by a shared reference.
 pub fn count_tag<R: Tagged>(slots: &[R], count: usize, tag: R::Tag) -> usize
-    ensures { result ≡ count_by (tagged tag) (take count slots.now) }
+    ensures { result ≡ count_by (R.tagged tag) (take count slots.now) }
 {
     slots::count_tag(slots, count, tag)
 }
@@ -48,7 +50,7 @@ impl<'a, R: Ranked> Bag<'a, R> {
     // The next record to leave.
     pub fn first(&self) -> Option<R>
         ensures found { result ≡ head_of (held self.now) }
-        ensures law { FirstLaw before (held self.now) result }
+        ensures law { FirstLaw R.before (held self.now) result }
     {
         slots::first(self.slots, *self.count)
     }
@@ -56,12 +58,12 @@ impl<'a, R: Ranked> Bag<'a, R> {
     // Puts a record in, behind those whose rank is not higher; refused where no slot is free.
     pub fn put(&mut self, x: R) -> Result<(), Refusal>
         ensures room { is_ok result ≡ nat_lt self.old.count.now (length self.old.slots.now) }
-        ensures held { held self.new ≡ (if is_ok result then put_in before x (held self.old) else held self.old) }
+        ensures held { held self.new ≡ (if is_ok result then put_in R.before x (held self.old) else held self.old) }
         ensures count { self.new.count.now ≡ (if is_ok result then self.old.count.now + 1 else self.old.count.now) }
         ensures beyond { drop self.new.count.now self.new.slots.now ≡ drop self.new.count.now self.old.slots.now }
         ensures unchanged { is_ok result ≡ false → self.new.slots.now ≡ self.old.slots.now }
         ensures framed { Framed self.old self.new }
-        ensures law { is_ok result ≡ true → PutLaw before x (held self.old) (held self.new) }
+        ensures law { is_ok result ≡ true → PutLaw R.before x (held self.old) (held self.new) }
     {
         let mut n = *self.count;
         let r = slots::put(self.slots, &mut n, x);
@@ -78,7 +80,7 @@ impl<'a, R: Ranked> Bag<'a, R> {
         ensures beyond { drop (length (held self.old)) self.new.slots.now ≡ drop (length (held self.old)) self.old.slots.now }
         ensures unchanged { is_some result ≡ false → self.new.slots.now ≡ self.old.slots.now }
         ensures framed { Framed self.old self.new }
-        ensures law { TakeLaw before any (held self.old) result (held self.new) }
+        ensures law { TakeLaw R.before any (held self.old) result (held self.new) }
     {
         let mut n = *self.count;
         let r = slots::take_first(self.slots, &mut n);
@@ -90,21 +92,21 @@ impl<'a, R: Ranked> Bag<'a, R> {
 impl<'a, R: Tagged> Bag<'a, R> {
     // How many records have the tag.
     pub fn count_tag(&self, tag: R::Tag) -> usize
-        ensures { result ≡ count_by (tagged tag) (held self.now) }
+        ensures { result ≡ count_by (R.tagged tag) (held self.now) }
     {
         slots::count_tag(self.slots, *self.count, tag)
     }
 
     // Takes the next record to leave among those that have the tag.
     pub fn take_tag(&mut self, tag: R::Tag) -> Option<R>
-        ensures found { result ≡ first_with (tagged tag) (held self.old) }
-        ensures held { held self.new ≡ without_first (tagged tag) (held self.old) }
+        ensures found { result ≡ first_with (R.tagged tag) (held self.old) }
+        ensures held { held self.new ≡ without_first (R.tagged tag) (held self.old) }
         ensures count { self.new.count.now ≡ (if is_some result then length (held self.old) - 1 else self.old.count.now) }
         ensures fits { self.old.count.now ≤ length self.old.slots.now → self.new.count.now ≡ (if is_some result then self.old.count.now - 1 else self.old.count.now) }
         ensures beyond { drop (length (held self.old)) self.new.slots.now ≡ drop (length (held self.old)) self.old.slots.now }
         ensures unchanged { is_some result ≡ false → self.new.slots.now ≡ self.old.slots.now }
         ensures framed { Framed self.old self.new }
-        ensures law { TakeLaw R.Ranked.before (tagged tag) (held self.old) result (held self.new) }
+        ensures law { TakeLaw R.Ranked.before (R.tagged tag) (held self.old) result (held self.new) }
     {
         let mut n = *self.count;
         let r = slots::take_tag(self.slots, &mut n, tag);

@@ -20,7 +20,7 @@ fn filled<R: Copy>(slots: &[R], count: usize) -> usize
 // The next record to leave.
 pub(crate) fn first<R: Ranked>(slots: &[R], count: usize) -> Option<R>
     ensures found { result ≡ head_of (take count slots.now) }
-    ensures law { FirstLaw before (take count slots.now) result }
+    ensures law { FirstLaw R.before (take count slots.now) result }
 {
     if filled(slots, count) == 0 {
         None
@@ -31,14 +31,14 @@ pub(crate) fn first<R: Ranked>(slots: &[R], count: usize) -> Option<R>
 
 // Whether `x` is put in front of `y`: only if its rank is lower, and so behind its equals.
 fn goes_before<R: Ranked>(x: &R, y: &R) -> bool
-    ensures { result ≡ before x.now y.now }
+    ensures { result ≡ R.before x.now y.now }
 {
     x.ranks_before(y)
 }
 
 // Where `x` goes: before the first record of higher rank.
 fn place<R: Ranked>(records: &[R], x: &R) -> usize
-    ensures at { result ≡ index_with (before x.now) records.now }
+    ensures at { result ≡ index_with (R.before x.now) records.now }
     ensures within { result ≤ length records.now }
 {
     for (i, y) in records.iter().enumerate() {
@@ -51,7 +51,7 @@ fn place<R: Ranked>(records: &[R], x: &R) -> usize
 
 // Where the first record with the tag stands.
 fn find_tag<R: Tagged>(records: &[R], tag: R::Tag) -> Option<usize>
-    ensures { MatchOption result (index_with (tagged tag) records.now ≡ length records.now) (λ i. (i ≡ index_with (tagged tag) records.now) × (i < length records.now)) }
+    ensures { MatchOption result (index_with (R.tagged tag) records.now ≡ length records.now) (λ i. (i ≡ index_with (R.tagged tag) records.now) × (i < length records.now)) }
 {
     for (i, y) in records.iter().enumerate() {
         if y.has_tag(tag) {
@@ -63,7 +63,7 @@ fn find_tag<R: Tagged>(records: &[R], tag: R::Tag) -> Option<usize>
 
 // How many of the records have the tag.
 fn tally<R: Tagged>(records: &[R], tag: R::Tag) -> usize
-    ensures { result ≡ count_by (tagged tag) records.now }
+    ensures { result ≡ count_by (R.tagged tag) records.now }
 {
     let mut n = 0;
     for y in records {
@@ -76,7 +76,7 @@ fn tally<R: Tagged>(records: &[R], tag: R::Tag) -> usize
 
 // How many of the records in the slots have the tag.
 pub(crate) fn count_tag<R: Tagged>(slots: &[R], count: usize, tag: R::Tag) -> usize
-    ensures { result ≡ count_by (tagged tag) (take count slots.now) }
+    ensures { result ≡ count_by (R.tagged tag) (take count slots.now) }
 {
     tally(&slots[0..filled(slots, count)], tag)
 }
@@ -106,11 +106,11 @@ fn remove_at<R: Copy>(slots: &mut [R], count: usize, at: usize) -> R
 // Puts `x` behind the records whose rank is not higher; refused where no slot is free.
 pub(crate) fn put<R: Ranked>(slots: &mut [R], count: &mut usize, x: R) -> Result<(), Refusal>
     ensures room { is_ok result ≡ nat_lt count.old (length slots.old) }
-    ensures held { take count.new slots.new ≡ (if is_ok result then put_in before x (take count.old slots.old) else take count.old slots.old) }
+    ensures held { take count.new slots.new ≡ (if is_ok result then put_in R.before x (take count.old slots.old) else take count.old slots.old) }
     ensures count { count.new ≡ (if is_ok result then count.old + 1 else count.old) }
     ensures beyond { drop count.new slots.new ≡ drop count.new slots.old }
     ensures unchanged { is_ok result ≡ false → slots.new ≡ slots.old }
-    ensures law { is_ok result ≡ true → PutLaw before x (take count.old slots.old) (take count.new slots.new) }
+    ensures law { is_ok result ≡ true → PutLaw R.before x (take count.old slots.old) (take count.new slots.new) }
 {
     let n = *count;
     if n >= slots.len() {
@@ -130,7 +130,7 @@ pub(crate) fn take_first<R: Ranked>(slots: &mut [R], count: &mut usize) -> Optio
     ensures fits { count.old ≤ length slots.old → count.new ≡ (if is_some result then count.old - 1 else count.old) }
     ensures beyond { drop (length (take count.old slots.old)) slots.new ≡ drop (length (take count.old slots.old)) slots.old }
     ensures unchanged { is_some result ≡ false → slots.new ≡ slots.old }
-    ensures law { TakeLaw before any (take count.old slots.old) result (take count.new slots.new) }
+    ensures law { TakeLaw R.before any (take count.old slots.old) result (take count.new slots.new) }
 {
     let n = filled(slots, *count);
     if n == 0 {
@@ -143,13 +143,13 @@ pub(crate) fn take_first<R: Ranked>(slots: &mut [R], count: &mut usize) -> Optio
 
 // Takes the first record that has the tag.
 pub(crate) fn take_tag<R: Tagged>(slots: &mut [R], count: &mut usize, tag: R::Tag) -> Option<R>
-    ensures found { result ≡ first_with (tagged tag) (take count.old slots.old) }
-    ensures held { take count.new slots.new ≡ without_first (tagged tag) (take count.old slots.old) }
+    ensures found { result ≡ first_with (R.tagged tag) (take count.old slots.old) }
+    ensures held { take count.new slots.new ≡ without_first (R.tagged tag) (take count.old slots.old) }
     ensures count { count.new ≡ (if is_some result then length (take count.old slots.old) - 1 else count.old) }
     ensures fits { count.old ≤ length slots.old → count.new ≡ (if is_some result then count.old - 1 else count.old) }
     ensures beyond { drop (length (take count.old slots.old)) slots.new ≡ drop (length (take count.old slots.old)) slots.old }
     ensures unchanged { is_some result ≡ false → slots.new ≡ slots.old }
-    ensures law { TakeLaw R.Ranked.before (tagged tag) (take count.old slots.old) result (take count.new slots.new) }
+    ensures law { TakeLaw R.Ranked.before (R.tagged tag) (take count.old slots.old) result (take count.new slots.new) }
 {
     let n = filled(slots, *count);
     let Some(at) = find_tag(&slots[0..n], tag) else {

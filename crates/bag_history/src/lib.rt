@@ -1,4 +1,6 @@
 // Sequences of calls on a bag, and the law that every such sequence keeps.
+#![tactic(auto)]
+
 ghost use Rattle.std.specs.Prelude.{◌≡◌, ◌<◌, min, map, length, take, drop, slice_set};
 ghost use Rattle.bag.specs.Held.{held, Framed};
 ghost use Rattle.bag_history.specs.History.{asked, Step, Lawful};
@@ -26,7 +28,7 @@ pub enum Entry<R, T> {
 // Makes one call.
 fn make<R: Tagged>(bag: &mut Bag<R>, call: Call<R, R::Tag>) -> Entry<R, R::Tag>
     ensures asked { asked result ≡ call }
-    ensures step { Step R.Ranked.before tagged (length bag.old.slots.now) (held bag.old) result (held bag.new) }
+    ensures step { Step R.Ranked.before R.tagged (length bag.old.slots.now) (held bag.old) result (held bag.new) }
     ensures framed { Framed bag.old bag.new }
 {
     match call {
@@ -53,7 +55,7 @@ pub fn run<R: Tagged>(
     ensures asked { map asked (take result log.new) ≡ take result calls.now }
     ensures rest { drop result log.new ≡ drop result log.old }
     ensures framed { Framed bag.old bag.new }
-    ensures law { Lawful R.Ranked.before tagged (length bag.old.slots.now) (held bag.old) (take result log.new) (held bag.new) }
+    ensures law { Lawful R.Ranked.before R.tagged (length bag.old.slots.now) (held bag.old) (take result log.new) (held bag.new) }
 {
     let n = calls.len().min(log.len());
     for i in 0..n {

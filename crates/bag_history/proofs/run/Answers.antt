@@ -18,7 +18,7 @@ loop-i-preserved g c =
     let h : i < length log = omega arith in
     let k : i < length c.args.calls.now = omega arith in
     let room = subst (λ n. Step g.R.Ranked.before g.R.Tagged.tagged n (held c.loop-i.bag) e (held c.make.new.bag)) inv.2.long c.make.ensures.step in
-    let written = c.write-at.ensures in (
+    let written = c.write_at.ensures in (
       asked_more log _ i e h written c.args.calls.now _ k inv.0 (c.make.ensures.asked ∙ c.index-calls-i.is),
       rest_more log _ i e h written c.args.log.now inv.1,
       framed_then _ _ _ inv.2 c.make.ensures.framed,

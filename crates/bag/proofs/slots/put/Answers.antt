@@ -15,12 +15,12 @@ returns g c =
     let laws = g.met.R.Ranked in
     let same : n - 0 ≡ n = omega arith in
     let at-is : c.place-at.result ≡ index_with (before x) (take n xs) = c.place-at.ensures.at ∙ ap (λ k. index_with (before x) (take k xs)) same in
-    let after = c.insert-at.ensures.held ∙ ap (λ i. insert (take n xs) i x) at-is ∙ sym (put_in_at before x (take n xs)) in
+    let after = c.insert_at.ensures.held ∙ ap (λ i. insert (take n xs) i x) at-is ∙ sym (put_in_at before x (take n xs)) in
     record {
       room = sym (lt-ltb n (length xs) (omega arith));
       held = after;
       count = refl;
-      beyond = c.insert-at.ensures.beyond;
+      beyond = c.insert_at.ensures.beyond;
       unchanged = λ e. absurd (true≢false e);
       law = λ _. put_law before laws.asymmetric laws.transitive x (take n xs) _ after;
     }

@@ -6,13 +6,13 @@ use Rattle.bag.proofs.Records.{first_taken, without_taken, first_none, without_n
 use Rattle.bag.proofs.Leaving.{take_law}
 use Rattle.bag.proofs.slots.take_tag.Goals as goal
 
-pub returns-in-default : goal.returns-in-default
-returns-in-default g c =
+pub returns-in_default : goal.returns-in_default
+returns-in_default g c =
     let p = g.R.Tagged.tagged c.args.tag in
     let xs = take c.args.count.now c.args.slots.now in
     let full = c.filled-n.ensures in
     let laws = g.met.R.Ranked in
-    let none : index_with p xs ≡ length xs = subst (λ l. index_with p l ≡ length l) full.same (simp sub-zero at c.in-default.ensures) in
+    let none : index_with p xs ≡ length xs = subst (λ l. index_with p l ≡ length l) full.same (simp sub-zero at c.in_default.ensures) in
     let nothing = sym (first_none p xs none) in
     let rest = sym (without_none p xs none) in
     record {
@@ -34,8 +34,8 @@ returns g c =
     let full = c.filled-n.ensures in
     let laws = g.met.R.Ranked in
     let at = c.in-Some.at in
-    let z = c.remove-at-x.result in
-    let out = c.remove-at-x.ensures in
+    let z = c.remove_at-x.result in
+    let out = c.remove_at-x.ensures in
     let place = simp sub-zero at c.in-Some.ensures in
     let found = first_taken p slots n at z place.0 place.1 out.found ∙ ap (first_with p) full.same in
     let after = out.held ∙ without_taken p slots n at z place.0 place.1 out.found ∙ ap (without_first p) full.same in
@@ -44,7 +44,7 @@ returns g c =
       held = after;
       count = ap (λ k. k - 1) full.long;
       fits = λ h. ap (λ k. k - 1) (full.all h);
-      beyond = ap (λ k. drop k c.remove-at-x.new.slots) (sym full.long) ∙ out.beyond ∙ ap (λ k. drop k slots) full.long;
+      beyond = ap (λ k. drop k c.remove_at-x.new.slots) (sym full.long) ∙ out.beyond ∙ ap (λ k. drop k slots) full.long;
       unchanged = λ e. absurd (true≢false e);
       law = take_law g.R.Ranked.before laws.asymmetric laws.transitive p xs _ _ found after;
     }
