@@ -1,5 +1,5 @@
 -- Orders kept in any sequence or in two lists, and the set that they are. Assumes nothing.
-use Rattle.std.specs.Prelude.{◌≡◌, ℕ, ◌+◌, ◌<◌, List, [], ◌∷◌, ◌++◌, length, Some, None, Ok, Option, ◌≢◌, refl}
+use Rattle.std.specs.Prelude.{◌≡◌, ℕ, ◌+◌, ◌<◌, ◌≤◌, List, [], ◌∷◌, ◌++◌, length, None, Ok, ◌≢◌, refl}
 use Rattle.std.proofs.Common.{sym, ap, ◌∙◌, ⊎_elim, arith}
 use Rattle.std.proofs.lemmas.Bool.{cases_eq, cases_lt}
 use Rattle.desk.specs.declared.Order.{Order}
@@ -10,6 +10,9 @@ use Rattle.desk.specs.OrderLaws.{length_inserted, look_up-here, look_up-past, lo
 pub length_union : (xs ys : List Order) → length (union xs ys) ≡ length xs + length ys
 length_union [] ys = omega arith
 length_union (x ∷ xs) ys = omega (arith, length_inserted x (union xs ys), length_union xs ys)
+
+pub few_union : (xs ys : List Order) → length xs + length ys ≤ 64 → length (union xs ys) ≤ 64
+few_union xs ys few = omega (arith, length_union xs ys, few)
 
 pub length-sorted : (xs : List Order) → length (sorted xs) ≡ length xs
 length-sorted xs = omega (arith, length_union xs [])

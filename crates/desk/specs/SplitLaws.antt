@@ -1,7 +1,7 @@
 -- What a call on one of two desks does to both together. Assumes nothing.
-use Rattle.std.specs.Prelude.{◌≡◌, ℕ, ◌+◌, ◌<◌, ◌≤◌, List, [], ◌∷◌, length, is_some, Some, None, Ok, Err, Option, Result, refl}
+use Rattle.std.specs.Prelude.{◌≡◌, ℕ, ◌+◌, ◌<◌, ◌≤◌, List, [], ◌∷◌, length, is_some, Some, None, Ok, Err, Result, refl}
 use Rattle.std.proofs.Common.{sym, ap, ◌∙◌, subst, ⊎_elim, arith}
-use Rattle.std.specs.List.{AllByRecursion as All}
+use Rattle.std.specs.List.{AllByRecursion}
 use Rattle.std.proofs.lemmas.Bool.{cases_eq, cases_lt}
 use Rattle.desk.specs.declared.Order.{Order}
 use Rattle.desk.specs.declared.Refusal.{Refusal}
@@ -55,20 +55,20 @@ absent_both n (x ∷ xs) ys h =
     (look_up-past n x xs a.0 ∙ b.0, b.1)
 
 module _ (P : Order → Type 0) where
-  all_inserted : (o : Order) (xs : List Order) → P o → All P xs → All P (inserted o xs)
+  all_inserted : (o : Order) (xs : List Order) → P o → AllByRecursion P xs → AllByRecursion P (inserted o xs)
   all_inserted o [] p a = (p, tt)
   all_inserted o (x ∷ xs) p a =
       ⊎_elim
-      (λ l. subst (All P) (sym (inserted-front o x xs l)) (p, a))
-      (λ l. subst (All P) (sym (inserted-past o x xs l)) (a.0, all_inserted o xs p a.1))
+      (λ l. subst (AllByRecursion P) (sym (inserted-front o x xs l)) (p, a))
+      (λ l. subst (AllByRecursion P) (sym (inserted-past o x xs l)) (a.0, all_inserted o xs p a.1))
       (cases_lt o.number x.number)
 
-  all_uninserted : (o : Order) (xs : List Order) → All P (inserted o xs) → All P xs
+  all_uninserted : (o : Order) (xs : List Order) → AllByRecursion P (inserted o xs) → AllByRecursion P xs
   all_uninserted o [] a = tt
   all_uninserted o (x ∷ xs) a =
       ⊎_elim
-      (λ l. (subst (All P) (inserted-front o x xs l) a).1)
-      (λ l. let b = subst (All P) (inserted-past o x xs l) a in (b.0, all_uninserted o xs b.1))
+      (λ l. (subst (AllByRecursion P) (inserted-front o x xs l) a).1)
+      (λ l. let b = subst (AllByRecursion P) (inserted-past o x xs l) a in (b.0, all_uninserted o xs b.1))
       (cases_lt o.number x.number)
 
 -- neither holds the number, and there is room
@@ -80,7 +80,7 @@ module _ {P Q P' : Type 0} {b : ℕ} (o : Order) (xs ys : List Order) (two : Sid
       second = two.second;
       disjoint = subst (λ l. Disjoint l ys) (sym h.2) (disjoint_put_first o xs ys two.disjoint ny);
       few = omega (arith, ap length h.2, length_inserted o xs);
-      low = subst (All (λ x. x.activity < b)) (sym h.2) (all_inserted (λ x. x.activity < b) o xs side two.low);
+      low = subst (AllByRecursion (λ x. x.activity < b)) (sym h.2) (all_inserted (λ x. x.activity < b) o xs side two.low);
       high = two.high;
     },
     (omega (arith, length_union xs ys), absent_union o.number xs ys nx ∙ ny, ap (λ l. union l ys) h.2 ∙ union-first o xs ys nx),
@@ -97,7 +97,7 @@ module _ {P Q P' : Type 0} {b : ℕ} (o : Order) (xs ys : List Order) (two : Sid
       disjoint = subst (λ l. Disjoint xs l) (sym h.2) (disjoint_put_second o xs ys two.disjoint nx);
       few = omega (arith, ap length h.2, length_inserted o ys);
       low = two.low;
-      high = subst (All (λ x. b ≤ x.activity)) (sym h.2) (all_inserted (λ x. b ≤ x.activity) o ys side two.high);
+      high = subst (AllByRecursion (λ x. b ≤ x.activity)) (sym h.2) (all_inserted (λ x. b ≤ x.activity) o ys side two.high);
     },
     (omega (arith, length_union xs ys), absent_union o.number xs ys nx ∙ ny, ap (λ l. union xs l) h.2 ∙ union-second o xs ys nx),
   )
@@ -113,7 +113,7 @@ first-closed {b = b} n o xs ys zs two p h =
         second = two.second;
         disjoint = disjoint-take-first o zs ys (subst (λ l. Disjoint l ys) h.3 two.disjoint) gone;
         few = omega (arith, two.few, ap length h.3, length_inserted o zs);
-        low = all_uninserted (λ x. x.activity < b) o zs (subst (All (λ x. x.activity < b)) h.3 two.low);
+        low = all_uninserted (λ x. x.activity < b) o zs (subst (AllByRecursion (λ x. x.activity < b)) h.3 two.low);
         high = two.high;
       },
       closed_by n o (union xs ys) (union zs ys) h.0 (ap (λ l. union l ys) h.3 ∙ union-first o zs ys gone) (absent_union n zs ys h.4 ∙ two.disjoint n (ap is_some h.1)),
@@ -136,8 +136,8 @@ module _ {P Q P' Q' : Type 0} {b : ℕ} (n : ℕ) (e : Refusal) (xs xs' ys : Lis
           second = q;
           disjoint = subst (λ l. Disjoint l zs) (sym same) (disjoint-take-second o xs zs (subst (λ l. Disjoint xs l) h.3 two.disjoint));
           few = omega (arith, two.few, ap length h.3, ap length same, length_inserted o zs);
-          low = subst (All (λ x. x.activity < b)) (sym same) two.low;
-          high = all_uninserted (λ x. b ≤ x.activity) o zs (subst (All (λ x. b ≤ x.activity)) h.3 two.high);
+          low = subst (AllByRecursion (λ x. x.activity < b)) (sym same) two.low;
+          high = all_uninserted (λ x. b ≤ x.activity) o zs (subst (AllByRecursion (λ x. b ≤ x.activity)) h.3 two.high);
         },
         closed_by n o (union xs ys) (union xs' zs) h.0
             (ap (λ l. union l ys) (sym same) ∙ ap (union xs') h.3 ∙ union-second o xs' zs (ap (λ m. look_up m xs') h.0 ∙ nz))
@@ -152,8 +152,8 @@ module _ {P Q P' Q' : Type 0} {b : ℕ} (n : ℕ) (e : Refusal) (xs xs' ys : Lis
           second = q;
           disjoint = subst (λ l. Disjoint l zs) (sym nx.1) (subst (λ l. Disjoint xs l) (sym h.1) two.disjoint);
           few = omega (arith, two.few, ap length h.1, ap length nx.1);
-          low = subst (All (λ x. x.activity < b)) (sym nx.1) two.low;
-          high = subst (All (λ x. b ≤ x.activity)) (sym h.1) two.high;
+          low = subst (AllByRecursion (λ x. x.activity < b)) (sym nx.1) two.low;
+          high = subst (AllByRecursion (λ x. b ≤ x.activity)) (sym h.1) two.high;
         },
         (absent_union n xs ys nx.0 ∙ h.0, ap (λ l. union l zs) nx.1 ∙ ap (union xs) h.1),
       )

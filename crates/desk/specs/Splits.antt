@@ -1,6 +1,6 @@
 -- The split desk: the orders of two desks together. Assumes nothing.
 use Rattle.std.specs.Prelude.{ℕ, ◌+◌, ◌<◌, ◌≤◌, List, length}
-use Rattle.std.specs.List.{AllByRecursion as All}
+use Rattle.std.specs.List.{AllByRecursion}
 use Rattle.desk.specs.declared.Order.{Order}
 use Rattle.desk.specs.declared.split.Split.{Split}
 use Rattle.desk.specs.Sets.{union, Disjoint}
@@ -12,8 +12,8 @@ pub record Sides (P Q : Type 0) (b : ℕ) (xs ys : List Order) : Type 0 where
   pub second : Q
   pub disjoint : Disjoint xs ys
   pub few : length xs + length ys ≤ 64
-  pub low : All (λ o. o.activity < b) xs
-  pub high : All (λ o. b ≤ o.activity) ys
+  pub low : AllByRecursion (λ o. o.activity < b) xs
+  pub high : AllByRecursion (λ o. b ≤ o.activity) ys
 
 module _ {F S : Type 0} where
   -- the orders of both, from those of each

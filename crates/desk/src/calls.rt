@@ -7,47 +7,47 @@ use crate::{Desk, Order, Refusal};
 
 // The order of this number. Just one has it, or none.
 fn look_up_once<D: Desk>(desk: &D, number: u32) -> Option<Order>
-    ensures { sound desk.now → numbered number (orders desk.now) ≡ (if is_some result then 1 else 0) }
+    ensures { D.sound desk.now → numbered number (D.orders desk.now) ≡ (if is_some result then 1 else 0) }
 {
     desk.look_up(number)
 }
 
 // Whether an order of this number is open: just one is, or none.
 pub fn is_open<D: Desk>(desk: &D, number: u32) -> bool
-    ensures { sound desk.now → numbered number (orders desk.now) ≡ (if result then 1 else 0) }
+    ensures { D.sound desk.now → numbered number (D.orders desk.now) ≡ (if result then 1 else 0) }
 {
     look_up_once(desk, number).is_some()
 }
 
 fn append<D: Desk>(desk: &mut D, order: Order) -> Result<(), Refusal>
-    ensures sound { sound desk.old → sound desk.new }
-    ensures opened { sound desk.old → Opened order (orders desk.old) (orders desk.new) result }
-    ensures last { sound desk.old → AllBelow order.number (orders desk.old) → OpenedLast order (orders desk.old) (orders desk.new) result }
+    ensures sound { D.sound desk.old → D.sound desk.new }
+    ensures opened { D.sound desk.old → Opened order (D.orders desk.old) (D.orders desk.new) result }
+    ensures last { D.sound desk.old → AllBelow order.number (D.orders desk.old) → OpenedLast order (D.orders desk.old) (D.orders desk.new) result }
 {
     desk.open_order(order)
 }
 
 // Opens an order. One numbered above all others comes last, and is refused only where 64 are open.
 pub fn open_last<D: Desk>(desk: &mut D, order: Order) -> Result<(), Refusal>
-    ensures sound { sound desk.old → sound desk.new }
-    ensures opened { sound desk.old → Opened order (orders desk.old) (orders desk.new) result }
-    ensures last { sound desk.old → AllBelow order.number (orders desk.old) → OpenedLast order (orders desk.old) (orders desk.new) result }
+    ensures sound { D.sound desk.old → D.sound desk.new }
+    ensures opened { D.sound desk.old → Opened order (D.orders desk.old) (D.orders desk.new) result }
+    ensures last { D.sound desk.old → AllBelow order.number (D.orders desk.old) → OpenedLast order (D.orders desk.old) (D.orders desk.new) result }
 {
     append(desk, order)
 }
 
 // Closes an order that was just opened on a desk that held `before`.
 fn close_again<D: Desk>(desk: &mut D, order: Order) -> Result<Order, Refusal>
-    ensures sound { sound desk.old → sound desk.new }
-    ensures back { (before : List Order) → sound desk.old → Opened order before (orders desk.old) (Ok tt) → CameBack order before (orders desk.new) result }
+    ensures sound { D.sound desk.old → D.sound desk.new }
+    ensures back { (before : List Order) → D.sound desk.old → Opened order before (D.orders desk.old) (Ok tt) → CameBack order before (D.orders desk.new) result }
 {
     desk.close_order(order.number)
 }
 
 // Opens an order and closes it again, to see whether it can be opened. The desk is left as it was.
 pub fn open_and_close<D: Desk>(desk: &mut D, order: Order) -> Result<Order, Refusal>
-    ensures sound { sound desk.old → sound desk.new }
-    ensures back { sound desk.old → CameBack order (orders desk.old) (orders desk.new) result }
+    ensures sound { D.sound desk.old → D.sound desk.new }
+    ensures back { D.sound desk.old → CameBack order (D.orders desk.old) (D.orders desk.new) result }
 {
     desk.open_order(order)?;
     close_again(desk, order)

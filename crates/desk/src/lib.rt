@@ -1,4 +1,6 @@
 // Desks: where the open orders of a case lie.
+#![tactic(auto)]
+
 ghost use Rattle.std.specs.Prelude.{◌≡◌, ◌≤◌, List, [], length};
 ghost use Rattle.desk.specs.declared.Order.{Order};
 ghost use Rattle.desk.specs.Orders.{refusal_number, look_up, Ascending, Opened, Closed};

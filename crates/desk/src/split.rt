@@ -4,8 +4,7 @@ ghost use Rattle.std.specs.Prelude.{◌≡◌, ◌<◌, ◌≤◌, [], length};
 ghost use Rattle.desk.specs.Orders.{look_up, CanOpen, Opened, Closed};
 ghost use Rattle.desk.specs.Splits.{together, SplitSound};
 ghost use Rattle.desk.specs.SplitLaws.{ascending_union};
-ghost use Rattle.std.proofs.Common.{arith};
-ghost use Rattle.desk.specs.SetLaws.{length_union};
+ghost use Rattle.desk.specs.SetLaws.{few_union};
 
 use crate::{CAPACITY, Desk, Order, Refusal};
 
@@ -88,7 +87,7 @@ impl<F: Desk, S: Desk> Desk for Split<F, S> {
 
     ghost ascending = { λ d s. ascending_union _ _ s.disjoint (F.Desk.ascending d.first s.first) (S.Desk.ascending d.second s.second) };
 
-    ghost few = { λ d s. omega (arith, length_union (F.Desk.orders d.first) (S.Desk.orders d.second), s.few) };
+    ghost few = { λ d s. few_union (F.Desk.orders d.first) (S.Desk.orders d.second) s.few };
 
     fn empty(&mut self)
         ensures sound { SplitSound F.Desk.sound S.Desk.sound F.Desk.orders S.Desk.orders self.new }

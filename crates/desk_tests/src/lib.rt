@@ -1,4 +1,6 @@
 // One table of calls and answers, which each kind of desk must meet.
+#![tactic(auto)]
+
 ghost use Rattle.std.specs.Prelude.{◌≡◌};
 
 use desk::split::Split;

@@ -1,5 +1,5 @@
 -- What the calls on a row of 64 holes do to the set of orders. Assumes nothing.
-use Rattle.std.specs.Prelude.{◌≡◌, ℕ, zero, suc, ◌+◌, ◌-◌, ◌%◌, ◌<◌, ◌≤◌, true, false, cond, not, List, [], ◌∷◌, ◌++◌, length, take, drop, set, Some, None, Ok, Option, Result, MatchOption, ◌≢◌, slice_index_or, slice_set, refl}
+use Rattle.std.specs.Prelude.{◌≡◌, ℕ, zero, suc, ◌+◌, ◌-◌, ◌%◌, ◌<◌, ◌≤◌, true, false, cond, List, [], ◌∷◌, ◌++◌, length, take, drop, set, Some, None, Ok, Option, Result, MatchOption, ◌≢◌, slice_index_or, slice_set, refl}
 use Rattle.std.proofs.Common.{sym, ap, ◌∙◌, subst, suc-le-suc, arith, add-one, length-set, length-append, length-drop}
 use Rattle.std.specs.Option.{ok_or}
 use Rattle.std.proofs.lemmas.List.{set_split, set-get_or, length-take-le}
@@ -25,6 +25,9 @@ pub length-held : (hs : List Hole) → length (held hs) ≤ length hs
 length-held [] = omega arith
 length-held (Empty ∷ hs) = omega (arith, length-held hs)
 length-held (Holding o ∷ hs) = omega (arith, length-held hs)
+
+pub few_held : (hs : List Hole) → length hs ≡ 64 → length (sorted (held hs)) ≤ 64
+few_held hs long = omega (arith, length-sorted (held hs), length-held hs, long)
 
 -- the row about the hole i
 module _ (hs : List Hole) (i : ℕ) (l : i < length hs) where

@@ -1,12 +1,13 @@
 // The pigeonholes: 64 holes, each empty or holding one order. A number is looked for from the hole
 // of its remainder by 64 on, round all 64, so that a closing needs to move no other order.
+#![tactic(auto)]
+
 ghost use Rattle.std.specs.Prelude.{◌≡◌, ◌<◌, ◌≤◌, [], length, None, Ok, MatchOption, slice_index_or};
 ghost use Rattle.desk.specs.Orders.{look_up, CanOpen, Opened, Closed};
 ghost use Rattle.desk.specs.Sets.{sorted};
 ghost use Rattle.pigeonholes.specs.Holes.{held, HolesSound, meets, First, Nowhere, Filled, Freed, content};
-ghost use Rattle.desk.specs.SetLaws.{ascending_sorted, length-sorted};
-ghost use Rattle.std.proofs.Common.{arith};
-ghost use Rattle.pigeonholes.specs.HoleLaws.{length-held};
+ghost use Rattle.desk.specs.SetLaws.{ascending_sorted};
+ghost use Rattle.pigeonholes.specs.HoleLaws.{few_held};
 
 use desk::{CAPACITY, Desk, Order, Refusal};
 
@@ -130,7 +131,7 @@ impl Desk for Pigeonholes {
 
     ghost ascending = { λ d s. ascending_sorted (held d.holes) s.distinct };
 
-    ghost few = { λ d s. omega (arith, length-sorted (held d.holes), length-held d.holes, s.long) };
+    ghost few = { λ d s. few_held d.holes s.long };
 
     fn empty(&mut self) {
         self.holes = [Hole::Empty; CAPACITY];

@@ -56,6 +56,9 @@ module _ (slots : List Order) (len : ℕ) (few : len ≤ 64) (s : TraySound slot
   pub length_tray : length (sorted (take len slots)) ≡ len
   length_tray = length-sorted (take len slots) ∙ size
 
+  pub few_tray : length (sorted (take len slots)) ≤ 64
+  few_tray = omega (arith, length_tray, few)
+
   pub appended : (o : Order) → len < 64 → take (len + 1) (slice_set slots len o) ≡ take len slots ++ o ∷ []
   appended o room = take_more_set slots len o (omega (arith, s.long))
 

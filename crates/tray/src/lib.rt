@@ -1,11 +1,12 @@
 // The tray: orders as they came, without gaps.
+#![tactic(auto)]
+
 ghost use Rattle.std.specs.Prelude.{◌≡◌, ℕ, ◌<◌, ◌≤◌, [], length, take, Some, None, Ok, MatchOption, slice_index_or};
 ghost use Rattle.desk.specs.Orders.{look_up, CanOpen, Opened, Closed};
 ghost use Rattle.desk.specs.Sets.{sorted};
 ghost use Rattle.tray.specs.Trays.{blank, TraySound, Joined, Parted};
 ghost use Rattle.desk.specs.SetLaws.{ascending_sorted};
-ghost use Rattle.std.proofs.Common.{arith};
-ghost use Rattle.tray.specs.TrayLaws.{length_tray};
+ghost use Rattle.tray.specs.TrayLaws.{few_tray};
 
 use desk::{CAPACITY, Desk, Order, Refusal};
 
@@ -100,7 +101,7 @@ impl Desk for Tray {
 
     ghost ascending = { λ d s. ascending_sorted (take d.len d.slots) s.distinct };
 
-    ghost few = { λ d s. omega (arith, length_tray d.slots d.len d.few s, d.few) };
+    ghost few = { λ d s. few_tray d.slots d.len d.few s };
 
     fn empty(&mut self) {
         self.slots = [BLANK; CAPACITY];

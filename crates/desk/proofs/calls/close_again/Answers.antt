@@ -3,8 +3,8 @@ use Rattle.desk.proofs.calls.close_again.Goals as goal
 
 pub returns : goal.returns
 returns g c =
-    let k = c.close-order.ensures in
+    let k = c.close_order.ensures in
     record {
       sound = k.sound;
-      back = λ before s h. came-back c.args.order before _ _ tt c.close-order.result h (k.closed s);
+      back = λ before s h. came-back c.args.order before _ _ tt c.close_order.result h (k.closed s);
     }

@@ -1,4 +1,4 @@
-use Rattle.std.proofs.Common.{length, drop, arith}
+use Rattle.std.proofs.Common.{length, arith}
 use Rattle.std.proofs.lemmas.List.{at_drop_all}
 use Rattle.pigeonholes.specs.Holes.{held}
 use Rattle.pigeonholes.specs.HoleLaws.{length-held-drop}

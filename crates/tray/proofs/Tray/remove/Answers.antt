@@ -3,9 +3,9 @@ use Rattle.tray.proofs.Tray.remove.Goals as goal
 
 pub returns : goal.returns
 returns c =
-    let turned = c.rotate-left.ensures.after in
+    let turned = c.rotate_left.ensures.after in
     record {
-      sound = λ n s f. (parted _ _ c.args.self.now.few s n c.args.i c.requires f c.rotate-left.new.self turned).0;
-      closed = λ n s f. (parted _ _ c.args.self.now.few s n c.args.i c.requires f c.rotate-left.new.self turned).1;
-      parted = λ n s f. (parted _ _ c.args.self.now.few s n c.args.i c.requires f c.rotate-left.new.self turned).2;
+      sound = λ n s f. (parted _ _ c.args.self.now.few s n c.args.i c.requires f c.rotate_left.new.self turned).0;
+      closed = λ n s f. (parted _ _ c.args.self.now.few s n c.args.i c.requires f c.rotate_left.new.self turned).1;
+      parted = λ n s f. (parted _ _ c.args.self.now.few s n c.args.i c.requires f c.rotate_left.new.self turned).2;
     }

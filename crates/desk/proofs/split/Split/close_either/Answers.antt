@@ -14,9 +14,9 @@ returns-in-Ok g c =
 pub returns-in-Err : goal.returns-in-Err
 returns-in-Err g c =
     let h = c.in-Err.ensures in
-    let k = c.close-order-in-Err.ensures in
+    let k = c.close_order-in-Err.ensures in
     record {
-      sound = λ s. (second_closed c.args.number c.in-Err.field-0 _ _ _ s (h.sound s.first) (k.sound s.second) (h.closed s.first) _ c.close-order-in-Err.result (k.closed s.second)).0;
-      closed = λ s. (second_closed c.args.number c.in-Err.field-0 _ _ _ s (h.sound s.first) (k.sound s.second) (h.closed s.first) _ c.close-order-in-Err.result (k.closed s.second)).1;
+      sound = λ s. (second_closed c.args.number c.in-Err.field-0 _ _ _ s (h.sound s.first) (k.sound s.second) (h.closed s.first) _ c.close_order-in-Err.result (k.closed s.second)).0;
+      closed = λ s. (second_closed c.args.number c.in-Err.field-0 _ _ _ s (h.sound s.first) (k.sound s.second) (h.closed s.first) _ c.close_order-in-Err.result (k.closed s.second)).1;
       bound = refl;
     }
