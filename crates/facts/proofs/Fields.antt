@@ -1,8 +1,8 @@
 -- One field of a record, looked at and set. Assumes nothing.
 use Rattle.std.proofs.Common.{◌≡◌, ℕ, suc, ◌+◌, ◌-◌, ◌*◌, ◌/◌, ◌%◌, ◌^◌, ◌<◌, ◌≤◌, true, false, eqb, List, ◌++◌, length, get_or, take, drop, set, Some, None, Option, sym, refl, ap, ◌∙◌, subst, one-mul, zero-mul, arith, lt-ltb, eqb-true}
-use lib.Count.{ones}
-use lib.Seq.{take-append-add}
-use borrow.Author.Tests.{eqb-false}
+use Rattle.std.specs.Int.Count.{ones}
+use Rattle.std.proofs.Math.Seq.{take-append-add}
+use Rattle.std.proofs.lemmas.Bool.{eqb-false}
 use Rattle.std.proofs.lemmas.Nat.{ones-le, mod_below, pow_pos}
 use Rattle.std.proofs.lemmas.List.{append_assoc, length-drop, drop_at, take_at, length-set, set-get_or, drop-drop}
 use Rattle.facts.specs.Facts.{Facts, small}

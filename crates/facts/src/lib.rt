@@ -1,4 +1,6 @@
 // Fact books: what is known of a case, as sixteen attributes.
+#![tactic(auto)]
+
 ghost use Rattle.std.specs.Prelude.{◌≡◌, ℕ, List, None, Option, slice_index_or};
 ghost use Rattle.facts.specs.Facts.{Facts, Looked, Changed, SetAndLooked, number_of};
 
@@ -62,7 +64,7 @@ pub fn set_and_look<B: FactBook>(
     value: Option<u32>,
     other: u8,
 ) -> Result<Option<u32>, Refusal>
-    ensures { SetAndLooked (facts book.old) attribute value other result (facts book.new) }
+    ensures { SetAndLooked (B.facts book.old) attribute value other result (B.facts book.new) }
 {
     book.look(other)?;
     book.set(attribute, value)?;

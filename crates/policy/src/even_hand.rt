@@ -1,8 +1,8 @@
 // Ranks that count.
 ghost use Rattle.std.specs.Prelude.{◌≡◌, replicate, slice_index};
 ghost use Rattle.policy.specs.Ranks.{Ranks, Raised, Counted, most};
-ghost use Rattle.std.proofs.Common.{arith};
-ghost use Rattle.std.proofs.lemmas.List.{get_or_past};
+ghost use Rattle.std.proofs.Common.{lit≤};
+ghost use Rattle.policy.specs.RankLaws.{ranks_beyond, ranks_small};
 
 use crate::{Policy, rank_in, tell_all};
 
@@ -29,9 +29,9 @@ impl Policy for EvenHand {
 
     ghost moves = { λ p e q. Raised p.counts e q.counts };
 
-    ghost beyond = { λ p e h. get_or_past p.counts e 0 (omega (arith, p.ok.0)) };
+    ghost beyond = { λ p. ranks_beyond most p.counts p.ok };
 
-    ghost small = { λ p e. omega (arith, p.ok.1 e) };
+    ghost small = { λ p. ranks_small most p.counts (lit≤ tt) p.ok };
 
     fn rank(&self, edge: u8) -> u32 {
         rank_in(&self.counts, edge)

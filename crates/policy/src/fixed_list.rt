@@ -1,8 +1,8 @@
 // Ranks that never change.
 ghost use Rattle.std.specs.Prelude.{◌≡◌, slice_index};
 ghost use Rattle.policy.specs.Ranks.{Ranks};
-ghost use Rattle.std.proofs.Common.{arith};
-ghost use Rattle.std.proofs.lemmas.List.{get_or_past};
+ghost use Rattle.std.proofs.Common.{lit≤};
+ghost use Rattle.policy.specs.RankLaws.{ranks_beyond, ranks_small};
 
 use crate::{Policy, rank_in};
 
@@ -26,9 +26,9 @@ impl Policy for FixedList {
 
     ghost moves = { λ p e q. q ≡ p };
 
-    ghost beyond = { λ p e h. get_or_past p.ranks e 0 (omega (arith, p.ok.0)) };
+    ghost beyond = { λ p. ranks_beyond 4294967295 p.ranks p.ok };
 
-    ghost small = { λ p e. omega (arith, p.ok.1 e) };
+    ghost small = { λ p. ranks_small 4294967295 p.ranks (lit≤ tt) p.ok };
 
     fn rank(&self, edge: u8) -> u32 {
         rank_in(&self.ranks, edge)

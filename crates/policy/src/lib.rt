@@ -1,4 +1,6 @@
 // Policies: the order in which edges of a chart are considered.
+#![tactic(auto)]
+
 ghost use Rattle.std.specs.Prelude.{◌≡◌, ℕ, ◌^◌, ◌<◌, ◌≤◌, slice_index};
 ghost use Rattle.policy.specs.Told.{Told};
 
@@ -29,7 +31,7 @@ pub trait Policy {
 
 // Tells the policy of each edge in turn.
 pub fn tell_all<P: Policy>(policy: &mut P, edges: &[u8])
-    ensures { Told moves policy.old edges.now policy.new }
+    ensures { Told P.moves policy.old edges.now policy.new }
 {
     for edge in edges {
         policy.told(*edge);

@@ -1,4 +1,6 @@
 // Both policies at the limits of edges and ranks.
+#![tactic(auto)]
+
 #[cfg(test)]
 mod tests {
     use policy::even_hand::EvenHand;

@@ -4,9 +4,9 @@ use Rattle.facts.proofs.packed.field.Goals as goal
 
 pub returns-then-stands : goal.returns-then-stands
 returns-then-stands c =
-    ap Some c.number-at.ensures
-    ∙ look_there c.args.bytes.now _ c.args.attribute _ c.requires.held c.map-in-map.ensures c.requires.low c.place.ensures.value (sym c.if-stands.ensures)
+    ap Some c.number_at.ensures
+    ∙ look_there c.args.bytes.now _ c.args.attribute _ c.requires.held c.map_in-map.ensures c.requires.low c.place.ensures.value (sym c.if-stands.ensures)
 
 pub returns-else-stands : goal.returns-else-stands
 returns-else-stands c =
-    look_absent c.args.bytes.now _ c.args.attribute _ c.requires.held c.map-in-map.ensures c.requires.low refl (sym c.if-stands.ensures)
+    look_absent c.args.bytes.now _ c.args.attribute _ c.requires.held c.map_in-map.ensures c.requires.low refl (sym c.if-stands.ensures)

@@ -2,4 +2,4 @@ use Rattle.std.proofs.Common.{◌≡◌, length}
 use Rattle.facts_tests.proofs.records.all_sixteen.Given as goal
 
 abbrev pub invariant-loop-i : goal.invariant-loop-i
-invariant-loop-i l = length l.source ≡ 66
+invariant-loop-i g l = length l.source ≡ 66
