@@ -1,8 +1,8 @@
 -- Parts that are in range pass the test for it.
-use Rattle.std.proofs.Common.{◌≡◌, ℕ, ◌/◌, ◌^◌, ◌<◌, ◌≤◌, Bool, true, false, ◌&&◌, eqb, ltb, leb, List, [], ◌∷◌, length, Some, None, Option, sym, refl, ap, ◌∙◌, subst, zero-le, arith, lt-ltb, eq-eqb, le-leb, leb-true}
+use Rattle.std.proofs.Common.{◌≡◌, ℕ, ◌/◌, ◌^◌, ◌≤◌, Bool, true, false, ◌&&◌, leb, List, [], ◌∷◌, length, Some, None, Option, refl, ap, ◌∙◌, zero-le, arith, lt-ltb, eq-eqb, le-leb, leb-true}
 use lib.Count.{ones}
 use Rattle.layout.specs.Reader.{Parts}
-use Rattle.layout.specs.Layout.{OptIn, AllIn, NodeIn, SetIn, ConditionIn, GuardIn, EdgeIn, InRange}
+use Rattle.layout.specs.Layout.{OptIn, AllIn, SetIn, ConditionIn, GuardIn, EdgeIn, InRange}
 use Rattle.layout.specs.declared.parts.Node.{Node}
 use Rattle.layout.specs.declared.parts.NodeSet.{NodeSet}
 use Rattle.layout.specs.declared.parts.RawEdge.{RawEdge}

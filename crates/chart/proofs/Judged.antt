@@ -1,5 +1,5 @@
 -- What reading a chart says, from what reading its layout and judging it by the rules say.
-use Rattle.std.proofs.Common.{◌≡◌, ℕ, zero, suc, ◌+◌, ◌<◌, ◌≤◌, Bool, true, false, cond, List, [], ◌∷◌, ◌++◌, map, length, get_or, take, Some, None, Ok, Err, vec_items, sym, refl, ap, ◌∙◌, subst, arith, length-append}
+use Rattle.std.proofs.Common.{◌≡◌, ℕ, zero, suc, ◌+◌, ◌<◌, Bool, true, false, cond, List, [], ◌∷◌, map, length, get_or, take, Ok, Err, vec_items, sym, refl, ap, ◌∙◌, subst, arith, length-append}
 use Rattle.std.proofs.lemmas.List.{length-map}
 use Rattle.layout.specs.declared.record.Record.{Record}
 use Rattle.layout.specs.declared.record.Record.TheVariants as record_of
@@ -15,7 +15,7 @@ use Rattle.chart.specs.declared.refusal.Unfit.TheVariants.{OutOfRange, Broken, M
 use Rattle.chart.specs.Range.{fits}
 use Rattle.chart.specs.Rules.{of_nodes, Lowest}
 use Rattle.chart.specs.Judge.{first_breach}
-use Rattle.chart.specs.Law.{parts_of, raw_parts, Made, Ready, Judges, node_place, edge_place, record_place}
+use Rattle.chart.specs.Law.{raw_parts, Made, Ready, Judges, node_place, edge_place, record_place}
 use Rattle.chart.specs.Places.{piece_at, place_in, Tellable, told}
 use Rattle.chart.proofs.Fits.{in_range_fits}
 

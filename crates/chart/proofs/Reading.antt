@@ -1,9 +1,8 @@
 -- What reading a chart says, from what reading its layout and judging it by the rules say.
-use Rattle.std.proofs.Common.{◌≡◌, ℕ, List, length, Ok, Err, Result, sym, refl, ap, ◌∙◌, subst}
-use Rattle.std.specs.declared.option.Option.TheVariants as option-of
+use Rattle.std.proofs.Common.{◌≡◌, ℕ, List, Ok, Err, Result, sym, refl, ap, ◌∙◌, subst}
 use Rattle.layout.specs.Reader.{got, bad, Parts}
 use Rattle.layout.specs.Reader as reader
-use Rattle.layout.specs.Layout.{InRange, encode}
+use Rattle.layout.specs.Layout.{encode}
 use Rattle.layout.specs.Law as LayoutLaw
 use Rattle.layout.specs.First.{First}
 use Rattle.layout.specs.declared.chart.RawChart.{RawChart}
@@ -11,13 +10,11 @@ use Rattle.layout.specs.declared.refusal.ReadError as LayoutErrorType
 use Rattle.layout.specs.declared.refusal.ReadError.TheVariants as LayoutError
 use Rattle.layout.proofs.Exact.{chart-reads}
 use Rattle.chart.specs.declared.chart.Chart.{Chart}
-use Rattle.chart.specs.declared.rules.Breach.{Breach}
 use Rattle.chart.specs.declared.refusal.Refusal.TheVariants.{Malformed, Broken}
 use Rattle.chart.specs.declared.refusal.ReadError.{ReadError}
 use Rattle.chart.specs.declared.refusal.ReadError.TheVariants.{Refused, Memory}
 use Rattle.chart.specs.Rules.{Keeps}
-use Rattle.chart.specs.Judge.{first_breach}
-use Rattle.chart.specs.Law.{parts_of, raw_parts, Judges, Exactly, Lawful, Written, Unambiguous, raised, judged, ruled, accepted, refused, verdict}
+use Rattle.chart.specs.Law.{raw_parts, Judges, Exactly, Lawful, Written, Unambiguous, raised, judged, ruled, accepted, refused}
 use Rattle.chart.proofs.Lowest.{keeps, lowest}
 
 module _ (bs : List ℕ) where

@@ -1,5 +1,5 @@
 -- Writing a chart.
-use Rattle.std.proofs.Common.{◌≡◌, true, List, map, length, Err, sym, ap, ◌∙◌, subst, ⊎_elim, arith}
+use Rattle.std.proofs.Common.{◌≡◌, true, List, map, length, Err, ap, ◌∙◌, subst, ⊎_elim, arith}
 use Rattle.layout.specs.Layout.{encode}
 use Rattle.layout.specs.declared.parts.Node.{Node}
 use Rattle.layout.specs.declared.parts.RawEdge.{RawEdge}

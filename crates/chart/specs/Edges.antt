@@ -1,5 +1,5 @@
 -- An edge of a chart, and the edge as it stands in the bytes.
-use Rattle.std.specs.Prelude.{◌≡◌, ℕ, Bool, true, false, not, ◌&&◌, ◌||◌, is_some, Some, None, Option}
+use Rattle.std.specs.Prelude.{◌≡◌, ℕ, Bool, true, not, ◌&&◌, ◌||◌, is_some, Some, None, Option}
 use Rattle.layout.specs.declared.parts.RawEdge.{RawEdge}
 use Rattle.chart.specs.declared.edge.Cause.{Cause}
 use Rattle.chart.specs.declared.edge.Cause.TheVariants.{Plain, Event, After, At}

@@ -1,5 +1,5 @@
 -- How a chart's parts are judged: rule by rule, record by record.
-use Rattle.std.specs.Prelude.{ℕ, zero, suc, ◌+◌, Bool, cond, List, [], ◌∷◌, length, take, Some, None, Option}
+use Rattle.std.specs.Prelude.{ℕ, zero, suc, ◌+◌, Bool, cond, List, [], ◌∷◌, Some, None, Option}
 use Rattle.layout.specs.declared.parts.Node.{Node}
 use Rattle.layout.specs.declared.parts.RawEdge.{RawEdge}
 use Rattle.chart.specs.declared.rules.Rule.{Rule}

@@ -1,5 +1,5 @@
 -- What making and reading a chart say.
-use Rattle.std.specs.Prelude.{◌≡◌, ℕ, ◌+◌, Bool, true, false, cond, List, map, length, take, Ok, Err, vec_items, Option, Result}
+use Rattle.std.specs.Prelude.{◌≡◌, ℕ, ◌+◌, false, cond, List, map, length, take, Ok, Err, vec_items, Option, Result}
 use Rattle.std.specs.declared.option.Option.TheVariants as option-of
 use Rattle.layout.specs.Reader.{Out, got, bad, Parts}
 use Rattle.layout.specs.Reader as reader

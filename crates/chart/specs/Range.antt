@@ -1,5 +1,5 @@
 -- Which parts are in range, as a test. That a guard's constant has four bytes is in its type.
-use Rattle.std.specs.Prelude.{ℕ, ◌/◌, ◌^◌, Bool, true, false, ◌&&◌, List, [], ◌∷◌, length, Some, None, Option, ◌==◌, count_ones, nat_le, nat_lt}
+use Rattle.std.specs.Prelude.{ℕ, ◌/◌, ◌^◌, Bool, true, ◌&&◌, List, [], ◌∷◌, length, Some, None, Option, ◌==◌, count_ones, nat_le, nat_lt}
 use Rattle.layout.specs.declared.parts.Node.{Node}
 use Rattle.layout.specs.declared.parts.NodeSet.{NodeSet}
 use Rattle.layout.specs.declared.parts.RawEdge.{RawEdge}

@@ -1,4 +1,6 @@
 // Charts that keep their rules: made, read, shown and written.
+#![tactic(auto)]
+
 mod breaks;
 pub mod chart;
 pub mod edge;

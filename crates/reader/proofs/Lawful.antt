@@ -1,10 +1,10 @@
 -- What the walk over the bytes says of them.
-use Rattle.std.proofs.Common.{◌≡◌, ℕ, List, length, Ok, Err, Result, sym, ◌∙◌, arith}
+use Rattle.std.proofs.Common.{◌≡◌, ℕ, List, length, Ok, Err, Result, arith}
 use Rattle.layout.specs.declared.refusal.ReadError.{ReadError}
 use Rattle.layout.specs.declared.refusal.ReadError.TheVariants.{Invalid, Memory}
 use Rattle.layout.specs.declared.refusal.Refusal.{Refusal}
 use Rattle.layout.specs.declared.chart.RawChart.{RawChart}
-use Rattle.layout.specs.Reader.{Out, got, bad, Parts}
+use Rattle.layout.specs.Reader.{Out, got, bad}
 use Rattle.layout.specs.Layout.{Bytes}
 use Rattle.layout.specs.Law.{Exactly, Lawful, Parted, parts_of}
 use Rattle.layout.proofs.Exact.{accepts}

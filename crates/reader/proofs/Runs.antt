@@ -1,5 +1,5 @@
 -- What one turn of a loop over records keeps.
-use Rattle.std.proofs.Common.{◌≡◌, ℕ, zero, suc, ◌+◌, ◌-◌, ◌<◌, ◌≤◌, List, [], ◌∷◌, ◌++◌, map, length, IsErrAnd, Ok, Err, vec_items, Result, Vec, sym, refl, ap, ◌∙◌, append_assoc, append-nil, arith}
+use Rattle.std.proofs.Common.{◌≡◌, ℕ, suc, ◌+◌, ◌-◌, ◌<◌, ◌≤◌, List, [], ◌∷◌, ◌++◌, map, length, IsErrAnd, Ok, Err, vec_items, Result, Vec, sym, refl, ap, ◌∙◌, append_assoc, append-nil, arith}
 use Rattle.std.specs.List.{between}
 use Rattle.std.specs.declared.alloc.Global.{Global}
 use Rattle.reader.specs.declared.cursor.Cursor.{Cursor}
@@ -9,7 +9,7 @@ use Rattle.layout.specs.declared.refusal.ReadError.TheVariants.{Invalid}
 use Rattle.layout.specs.declared.refusal.Refusal.{Refusal}
 use Rattle.layout.specs.Reader.{Out, got, bad, bind, many}
 use Rattle.layout.specs.Records.{Piece, piece}
-use Rattle.reader.specs.Walk.{Cut, Handed, HandedAll, HandsAll}
+use Rattle.reader.specs.Walk.{Cut, Handed, HandsAll}
 
 -- what a run gives that begins with xs
 abbrev pub after : {A : Type 0} → List A → Out (List A) → Out (List A)

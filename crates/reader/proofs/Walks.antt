@@ -1,12 +1,12 @@
 -- A walk over all records of a chart, and the records that it cut.
-use Rattle.std.proofs.Common.{◌≡◌, ℕ, zero, suc, ◌+◌, ◌-◌, ◌<◌, ◌≤◌, false, ltb, leb, List, [], ◌∷◌, ◌++◌, map, length, take, drop, Ok, vec_items, sym, refl, ap, ◌∙◌, subst, append_assoc, append-nil, arith, length-append, length-drop, le-ltb}
+use Rattle.std.proofs.Common.{◌≡◌, ℕ, zero, suc, ◌+◌, ◌-◌, ◌≤◌, ltb, leb, List, [], ◌∷◌, ◌++◌, map, length, take, drop, Ok, vec_items, sym, refl, ap, ◌∙◌, subst, arith, length-append, length-drop, le-ltb}
 use Rattle.std.proofs.lemmas.List.{take_at}
 use Rattle.std.specs.List.{between}
 use Rattle.reader.specs.declared.cursor.Cursor.{Cursor}
 use Rattle.layout.specs.declared.chart.RawChart.{RawChart}
-use Rattle.layout.specs.Reader.{Out, got, bad, bind, byte, count, many, node, edge, chart}
+use Rattle.layout.specs.Reader.{Out, got, byte, count, many, node, edge}
 use Rattle.layout.specs.Records.{Piece, piece, pieces, node_piece, edge_piece}
-use Rattle.layout.specs.Layout.{Bytes, InRange, all, node_bytes, edge_bytes, encode}
+use Rattle.layout.specs.Layout.{Bytes, all, node_bytes, edge_bytes, encode}
 use Rattle.layout.specs.Law.{Parted, parts_of}
 use Rattle.layout.proofs.Exact.{Exact, on, no_on, via, past, from_got, node_exact, edge_exact, accepts}
 use Rattle.reader.specs.Walk.{Cut, HandedAll, Reads, Walked}

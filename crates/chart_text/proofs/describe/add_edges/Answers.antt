@@ -6,7 +6,7 @@ use Rattle.chart_text.proofs.describe.add_edges.Goals as goal
 pub loop-number-preserved : goal.loop-number-preserved
 loop-number-preserved c =
     lines_more edge_lines c.args.edges.now c.loop-number.number (string_bytes c.loop-number.out) _ edge_line (λ k x xs. refl) _ _ _ c.loop-number-test.true c.loop-number.invariant
-    c.in-ok-line.ensures (c.in-ok-push-str.ensures.bytes ∙ ap (λ (l : List ℕ). string_bytes c.loop-number.out ++ l) c.as-str.ensures.value)
+    c.in_ok-line.ensures (c.in_ok-push_str.ensures.bytes ∙ ap (λ (l : List ℕ). string_bytes c.loop-number.out ++ l) c.as_str.ensures.value)
 
 pub returns : goal.returns
 returns c = lines_all edge_lines c.args.edges.now c.loop-number.number (string_bytes c.loop-number.out) _ (λ k. refl) c.loop-number-test.false c.loop-number.invariant

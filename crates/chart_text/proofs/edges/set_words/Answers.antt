@@ -6,4 +6,4 @@ pub loop-node-init : goal.loop-node-init
 loop-node-init c = c.new-words.ensures.bytes ∙ nodes-none c.args.set.bits
 
 pub loop-node-preserved : goal.loop-node-preserved
-loop-node-preserved c = nodes-more c.args.set.bits _ _ _ c.loop-node.invariant c.in-ok-words.ensures
+loop-node-preserved c = nodes-more c.args.set.bits _ _ _ c.loop-node.invariant c.in_ok-words.ensures

@@ -4,5 +4,5 @@ use Rattle.reader.proofs.read.walk.Goals as goal
 
 pub returns : goal.returns
 returns c =
-    walked _ _ _ _ _ _ _ _ _ c.new-cursor.ensures.bytes c.new-cursor.ensures.place c.in-ok-node-count.ensures c.in-ok-edge-count.ensures
-    c.in-ok-nodes.ensures c.in-ok-edges.ensures (omega arith)
+    walked _ _ _ _ _ _ _ _ _ c.new-cursor.ensures.bytes c.new-cursor.ensures.place c.in_ok-node_count.ensures c.in_ok-edge_count.ensures
+    c.in_ok-nodes.ensures c.in_ok-edges.ensures (omega arith)

@@ -8,13 +8,13 @@ use Rattle.chart.proofs.chart.make.build.Goals as goal
 pub returns-in-Some : goal.returns-in-Some
 returns-in-Some c = breached (vec_items c.args.nodes) c.deref-2.result.now c.args.edges.now c.deref-2.ensures.value c.in-Some.breach c.in-Some.ensures
 
-pub edges-of-requires : goal.edges-of-requires
-edges-of-requires c = rules_kept (vec_items c.args.nodes) c.deref-2.result.now c.args.edges.now c.deref-2.ensures.value c.in-default.ensures OneCause
+pub edges_of-requires : goal.edges_of-requires
+edges_of-requires c = rules_kept (vec_items c.args.nodes) c.deref-2.result.now c.args.edges.now c.deref-2.ensures.value c.in_default.ensures OneCause
 
-pub invariant-of-result : goal.invariant-of-result
-invariant-of-result c =
-    let g = lasting (vec_items c.args.nodes) c.deref-2.result.now c.args.edges.now c.deref-2.ensures.value c.deref.result.now (vec_items c.in-Ok.edges) c.deref.ensures.value c.if-not-in-range.ensures c.in-default.ensures c.in-Ok.ensures in
-    (g.0, (g.1, tt))
+pub invariant_of-result : goal.invariant_of-result
+invariant_of-result c =
+    let g = lasting (vec_items c.args.nodes) c.deref-2.result.now c.args.edges.now c.deref-2.ensures.value c.deref.result.now (vec_items c.in-Ok.edges) c.deref.ensures.value c.if-not-in_range.ensures c.in_default.ensures c.in-Ok.ensures in
+    record { in_range = g.0; keeps = g.1 }
 
 pub returns : goal.returns
 returns c =
@@ -22,6 +22,6 @@ returns c =
     let ms = c.deref-2.result.now in
     let es = c.args.edges.now in
     let same = c.deref-2.ensures.value in
-    let none = c.in-default.ensures in
+    let none = c.in_default.ensures in
     let whole : List RawEdge → Parts = λ l. record { nodes = ns; edges = l } in
     (ap whole c.in-Ok.ensures, unbreached ns ms es same none, rules_kept ns ms es same none)

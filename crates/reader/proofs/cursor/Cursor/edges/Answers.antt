@@ -7,11 +7,11 @@ loop-i-init c = none _ _ _ _ _ _ c.new-edges.ensures.items c.new-records.ensures
 
 pub loop-i-preserved : goal.loop-i-preserved
 loop-i-preserved c =
-    more _ _ _ _ _ _ _ _ _ (c.in-ok-edge.edge, c.in-ok-edge.record) _ _ c.loop-i-test.true c.loop-i.invariant c.in-ok-edge.ensures
-    c.in-ok-push.ensures.items c.in-ok-push-2.ensures.items
+    more _ _ _ _ _ _ _ _ _ (c.in_ok-edge.edge, c.in_ok-edge.record) _ _ c.loop-i-test.true c.loop-i.invariant c.in_ok-edge.ensures
+    c.in_ok-push.ensures.items c.in_ok-push-2.ensures.items
 
-pub returns-in-err-edge : goal.returns-in-err-edge
-returns-in-err-edge c = stop _ _ _ _ _ _ _ _ _ _ _ c.loop-i-test.true c.loop-i.invariant c.in-err-edge.ensures c.from-residual.ensures.1
+pub returns-in_err-edge : goal.returns-in_err-edge
+returns-in_err-edge c = stop _ _ _ _ _ _ _ _ _ _ _ c.loop-i-test.true c.loop-i.invariant c.in_err-edge.ensures c.from_residual.ensures.1
 
 pub returns : goal.returns
 returns c = done _ _ _ _ _ _ _ (omega arith) c.loop-i.invariant

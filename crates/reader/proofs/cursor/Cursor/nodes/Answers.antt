@@ -7,11 +7,11 @@ loop-i-init c = none _ _ _ _ _ _ c.new-nodes.ensures.items c.new-records.ensures
 
 pub loop-i-preserved : goal.loop-i-preserved
 loop-i-preserved c =
-    more _ _ _ _ _ _ _ _ _ (c.in-ok-node.node, c.in-ok-node.record) _ _ c.loop-i-test.true c.loop-i.invariant c.in-ok-node.ensures
-    c.in-ok-push.ensures.items c.in-ok-push-2.ensures.items
+    more _ _ _ _ _ _ _ _ _ (c.in_ok-node.node, c.in_ok-node.record) _ _ c.loop-i-test.true c.loop-i.invariant c.in_ok-node.ensures
+    c.in_ok-push.ensures.items c.in_ok-push-2.ensures.items
 
-pub returns-in-err-node : goal.returns-in-err-node
-returns-in-err-node c = stop _ _ _ _ _ _ _ _ _ _ _ c.loop-i-test.true c.loop-i.invariant c.in-err-node.ensures c.from-residual.ensures.1
+pub returns-in_err-node : goal.returns-in_err-node
+returns-in_err-node c = stop _ _ _ _ _ _ _ _ _ _ _ c.loop-i-test.true c.loop-i.invariant c.in_err-node.ensures c.from_residual.ensures.1
 
 pub returns : goal.returns
 returns c = done _ _ _ _ _ _ _ (omega arith) c.loop-i.invariant
