@@ -1,4 +1,6 @@
 // The program: checks chart files and shows what the charts say.
+#![tactic(auto)]
+
 mod check;
 mod command;
 
@@ -6,6 +8,7 @@ use anyhow::anyhow;
 use chart_text::refusals::error_words;
 use check::answer;
 use command::{Command, advice, command_of};
+use std::fmt::{self, Debug, Formatter, InlineText};
 use std::{env, fs};
 
 const HELP: &str =
@@ -40,10 +43,26 @@ fn run(rt: &HostRuntime) -> anyhow::Result<()> {
             rt.print(HELP)?;
             Ok(())
         }
-        Err(misuse) => Err(advice(misuse).into()),
+        Err(misuse) => Err(anyhow!(advice(misuse))),
     }
 }
 
-fn main(rt: HostRuntime) -> anyhow::Result<()> {
-    run(&rt)
+// Why there is no answer, which is shown between quotes.
+#[derive(Drop)]
+struct NoAnswer {
+    error: anyhow::Error,
+}
+
+impl Debug for NoAnswer {
+    fn fmt<W: fmt::Write>(&self, f: &mut Formatter<W>) -> fmt::Result {
+        let message: InlineText<120> = InlineText::of(&self.error);
+        write!(f, "{:?}", message.as_str())
+    }
+}
+
+fn main(rt: HostRuntime) -> Result<(), NoAnswer> {
+    match run(&rt) {
+        Ok(()) => Ok(()),
+        Err(error) => Err(NoAnswer { error }),
+    }
 }
