@@ -1,11 +1,11 @@
 -- What a step's edges are, by counting. Assumes nothing.
-use Rattle.std.specs.Prelude.{◌≡◌, ℕ, ◌<◌, ◌≤◌, Bool, true, false, cond, ◌&&◌, List, [], ◌∷◌, length, nat_eq}
-use Rattle.std.specs.List.{AllByRecursion as All}
+use Rattle.std.specs.Prelude.{◌≡◌, ℕ, ◌<◌, ◌≤◌, Bool, true, cond, ◌&&◌, List, [], ◌∷◌, length, nat_eq}
+use Rattle.std.specs.List.{AllByRecursion}
 use Rattle.model.specs.Choice.{Basis, count, total, least, no_later, greedy}
 
 abbrev pub Sorted : (ℕ → ℕ) → List ℕ → Type 0
 Sorted rank [] = Unit {0}
-Sorted rank (x ∷ xs) = All (λ y. no_later rank x y ≡ true) xs × Sorted rank xs
+Sorted rank (x ∷ xs) = AllByRecursion (λ y. no_later rank x y ≡ true) xs × Sorted rank xs
 
 -- each edge leaves a node
 abbrev pub Sourced : Basis → Type 0
@@ -20,7 +20,7 @@ abbrev pub Exhausted : Basis → (ℕ → ℕ) → List ℕ → ℕ → Type 0
 Exhausted t rank xs e = (n : ℕ) × (n < t.nodes) × (t.source e n ≡ true) × (count (λ x. t.source x n && no_later rank x e) xs ≡ t.available n)
 
 pub record Law (t : Basis) (rank : ℕ → ℕ) (xs : List ℕ) : Type 0 where
-  pub known : All (λ e. e < t.edges) xs
+  pub known : AllByRecursion (λ e. e < t.edges) xs
   pub few : (e : ℕ) → e < t.edges → count (nat_eq e) xs ≤ t.enabled e
   pub covered : Covered t xs
   pub left : (e : ℕ) → e < t.edges → count (nat_eq e) xs < t.enabled e → Exhausted t rank xs e

@@ -1,10 +1,10 @@
 -- What holds of clocks that ring and follow. Assumes nothing.
-use Rattle.std.specs.Prelude.{◌≡◌, ℕ, ◌+◌, ◌-◌, ◌*◌, ◌<◌, ◌≤◌, Bool, true, false, cond, not, List, [], ◌∷◌, ◌++◌, length, get_or, take, drop, Some, None, filter, Option, slice_index_or}
-use Rattle.std.specs.List.{AllByRecursion as All}
+use Rattle.std.specs.Prelude.{◌≡◌, ℕ, ◌-◌, ◌<◌, ◌≤◌, Bool, true, false, not, List, [], ◌∷◌, ◌++◌, length, get_or, take, drop, Some, None, filter, Option, slice_index_or}
+use Rattle.std.specs.List.{AllByRecursion}
 use Rattle.bag.specs.Records.{in_order}
 use Rattle.model.specs.Ranks.{clock_before}
-use Rattle.model.specs.Clocks.{of_edge, spent_of, running_of, count_of, due_by, rings, spent, rung, after_ring, fewer, more, started, edge_followed, followed, rising, is_timed, owed, leaving}
-use Rattle.model.specs.declared.clock.ClockState.TheVariants.{Running, Spent}
+use Rattle.model.specs.Clocks.{of_edge, spent_of, running_of, count_of, spent, rung, after_ring, fewer, more, started, followed, rising, is_timed, owed, leaving}
+use Rattle.model.specs.declared.clock.ClockState.TheVariants.{Running}
 use Rattle.model.specs.declared.clock.Clock.{Clock}
 use Rattle.model.specs.Graph.{Timed}
 
@@ -38,7 +38,7 @@ pub record Followed (moment : ℕ) (b m e : ℕ → ℕ) (xs : List Timed) (cs :
   -- no clock of an edge that is not relevant
   pub none : (n : ℕ) → e n ≡ 0 → filter (of_edge n) (followed moment b m e xs cs) ≡ []
   -- which clocks of each timed edge are there
-  pub each : All (EdgeFollowed moment b m e cs (followed moment b m e xs cs)) xs
+  pub each : AllByRecursion (EdgeFollowed moment b m e cs (followed moment b m e xs cs)) xs
   -- the clocks of an edge that is not timed stay, in their order
   pub others : (n : ℕ) → is_timed xs n ≡ false → filter (of_edge n) (followed moment b m e xs cs) ≡ filter (of_edge n) cs
   -- no more clocks than slots, also where only some of the edges have been followed, and the next one rises
@@ -67,14 +67,14 @@ pub record LawsOfFollowing : Type 0 where
 pub record Rang (moment : ℕ) (cs : List Clock) (c : Clock) : Type 0 where
   pub running : c.state ≡ Running
   pub due : c.deadline ≤ moment
-  pub earliest : All (λ d. d.state ≡ Running → c.deadline ≤ d.deadline) cs
+  pub earliest : AllByRecursion (λ d. d.state ≡ Running → c.deadline ≤ d.deadline) cs
   pub rest : List Clock
   pub was : cs ≡ c ∷ rest
   pub is : after_ring moment cs ≡ filter (λ y. not (clock_before (spent c) y)) rest ++ (spent c ∷ filter (clock_before (spent c)) rest)
 
 -- nothing rang: no running clock is due
 pub record Quiet (moment : ℕ) (cs : List Clock) : Type 0 where
-  pub none : All (λ d. d.state ≡ Running → moment < d.deadline) cs
+  pub none : AllByRecursion (λ d. d.state ≡ Running → moment < d.deadline) cs
   pub same : after_ring moment cs ≡ cs
 
 abbrev pub RangOrQuiet : ℕ → List Clock → Option Clock → Type 0

@@ -1,5 +1,5 @@
 -- What the questions answer. Assumes nothing.
-use Rattle.std.specs.Prelude.{◌≡◌, ℕ, ◌<◌, ◌≤◌, Bool, true, false, cond, not, ◌&&◌, ◌||◌, List, Some, None, Ok, Err, count_by, Option, Result, nat_lt, slice_index_or}
+use Rattle.std.specs.Prelude.{◌≡◌, ℕ, ◌<◌, ◌≤◌, Bool, true, cond, not, ◌&&◌, Some, None, Ok, Err, count_by, Option, Result, nat_lt, slice_index_or}
 use Rattle.desk.specs.Orders.{look_up}
 use Rattle.desk.specs.declared.Order.{Order}
 use Rattle.model.specs.declared.refusal.Refusal.{Refusal}

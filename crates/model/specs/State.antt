@@ -1,6 +1,6 @@
 -- A case by its meaning, and what always holds of it. Assumes nothing.
-use Rattle.std.specs.Prelude.{◌≡◌, ℕ, ◌+◌, ◌<◌, ◌≤◌, Bool, true, false, cond, List, [], ◌∷◌, ◌++◌, length, Some, Option, ◌==◌}
-use Rattle.std.specs.List.{AllByRecursion as All}
+use Rattle.std.specs.Prelude.{◌≡◌, ℕ, ◌+◌, ◌<◌, ◌≤◌, Bool, true, false, cond, List, [], ◌∷◌, length, Some, Option, ◌==◌}
+use Rattle.std.specs.List.{AllByRecursion}
 use Rattle.bag.specs.Records.{in_order}
 use Rattle.desk.specs.Orders.{Ascending}
 use Rattle.desk.specs.declared.Order.{Order}
@@ -76,10 +76,10 @@ pub record Sound (c : Graph) (s : State) : Type 0 where
   -- events and clocks stand in the order of leaving
   pub ordered : in_order clock_before s.clocks ≡ true
   pub queued : in_order event_before s.events ≡ true
-  pub silent : All (λ x. can_wait x ≡ true) s.events
+  pub silent : AllByRecursion (λ x. can_wait x ≡ true) s.events
   -- orders have the activity of their node, and numbers that were given out, each once
-  pub given : All (λ o. o.number < s.next) s.orders
-  pub active : All (λ o. c.activity o.node ≡ Some o.activity) s.orders
+  pub given : AllByRecursion (λ o. o.number < s.next) s.orders
+  pub active : AllByRecursion (λ o. c.activity o.node ≡ Some o.activity) s.orders
   pub rising : Ascending s.orders
   pub tokens : total s.tokens c.nodes ≤ 64
   pub events : length s.events ≤ 256
