@@ -1,4 +1,6 @@
 // Charts on both sides of every limit, with the answer that the layout and the rules give.
+#![tactic(auto)]
+
 use chart::refusal::ReadError;
 use hex_text::text::bytes_of;
 use std::alloc::Global;
