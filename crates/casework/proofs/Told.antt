@@ -1,5 +1,5 @@
 -- The answer to a chart file, from the answers of its parts.
-use Rattle.std.proofs.Common.{◌≡◌, ℕ, ◌⊎◌, List, IfOk, Ok, Err, vec_items, string_bytes, Result, String, ap, ◌∙◌, subst, inl, inr}
+use Rattle.std.proofs.Common.{◌≡◌, ℕ, List, IfOk, Ok, Err, vec_items, string_bytes, Result, String, ap, ◌∙◌, subst, inl, inr}
 use Rattle.std.specs.declared.alloc.AllocError.{AllocError}
 use Rattle.std.specs.declared.alloc.Global.{Global}
 use Rattle.layout.specs.declared.parts.Node.{Node}
