@@ -1,55 +1,58 @@
+use crate::checks::check_eq;
 use facts::packed::PackedRecord;
 use facts::table::Table;
 use facts::{FactBook, Refusal};
-use std::process::Abort;
+use std::test::Fail;
 
 // Sets each attribute of a book without facts, from the last to the first, and looks at what it then has.
-fn fill<B: FactBook>(rt: &impl Abort, book: &mut B) {
+fn fill<B: FactBook>(book: &mut B) -> Result<(), Fail> {
     for k in 0..16u8 {
         let attribute = 15 - k;
-        assert_eq!(rt; book.look(attribute), Ok(None));
-        assert_eq!(rt;
+        check_eq(book.look(attribute), Ok(None))?;
+        check_eq(
             book.set(attribute, Some(u32::MAX - attribute as u32)),
-            Ok(())
-        );
+            Ok(()),
+        )?;
     }
     for attribute in 0..16u8 {
-        assert_eq!(rt; book.look(attribute), Ok(Some(u32::MAX - attribute as u32)));
-        assert_eq!(rt; book.value(attribute), Some(u32::MAX - attribute as u32));
+        check_eq(book.look(attribute), Ok(Some(u32::MAX - attribute as u32)))?;
+        check_eq(book.value(attribute), Some(u32::MAX - attribute as u32))?;
     }
+    Ok(())
 }
 
 // Makes every other attribute absent, and looks at all.
-fn thin_out<B: FactBook>(rt: &impl Abort, book: &mut B) {
+fn thin_out<B: FactBook>(book: &mut B) -> Result<(), Fail> {
     for k in 0..8u8 {
-        assert_eq!(rt; book.set(2 * k, None), Ok(()));
-        assert_eq!(rt; book.set(2 * k + 1, Some(0)), Ok(()));
+        check_eq(book.set(2 * k, None), Ok(()))?;
+        check_eq(book.set(2 * k + 1, Some(0)), Ok(()))?;
     }
     for k in 0..8u8 {
-        assert_eq!(rt; book.look(2 * k), Ok(None));
-        assert_eq!(rt; book.look(2 * k + 1), Ok(Some(0)));
+        check_eq(book.look(2 * k), Ok(None))?;
+        check_eq(book.look(2 * k + 1), Ok(Some(0)))?;
     }
+    Ok(())
 }
 
-fn drive<B: FactBook>(rt: &impl Abort, book: &mut B) {
-    fill(rt, book);
-    thin_out(rt, book);
+fn drive<B: FactBook>(book: &mut B) -> Result<(), Fail> {
+    fill(book)?;
+    thin_out(book)?;
     for attribute in [16, 255] {
-        assert_eq!(rt; book.look(attribute), Err(Refusal::NoSuchAttribute));
-        assert_eq!(rt; book.set(attribute, Some(1)), Err(Refusal::NoSuchAttribute));
-        assert_eq!(rt; book.value(attribute), None);
+        check_eq(book.look(attribute), Err(Refusal::NoSuchAttribute))?;
+        check_eq(book.set(attribute, Some(1)), Err(Refusal::NoSuchAttribute))?;
+        check_eq(book.value(attribute), None)?;
     }
-    assert_eq!(rt; book.look(15), Ok(Some(0)));
+    check_eq(book.look(15), Ok(Some(0)))
 }
 
 #[test]
-fn table(rt: HostRuntime) {
-    drive(&rt, &mut Table::new());
+fn table() -> Result<(), Fail> {
+    drive(&mut Table::new())
 }
 
 #[test]
-fn packed_record(rt: HostRuntime) {
-    drive(&rt, &mut PackedRecord::new());
+fn packed_record() -> Result<(), Fail> {
+    drive(&mut PackedRecord::new())
 }
 
 #[test]

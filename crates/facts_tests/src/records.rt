@@ -1,6 +1,6 @@
+use crate::checks::{check, check_eq};
 use facts::packed::PackedRecord;
 use facts::{FactBook, Refusal};
-use std::process::Abort;
 use std::test::Fail;
 
 // Attribute 0 is 40, and attribute 2 is 7.
@@ -28,27 +28,19 @@ const SINGLE: [[u8; 2]; 16] = [
 
 // The book writes a record of `len` bytes, and leaves the buffer as `expected`.
 fn check_written(
-    rt: &impl Abort,
     book: &PackedRecord,
     buffer: &mut [u8],
     len: usize,
     expected: &[u8],
 ) -> Result<(), Fail> {
-    assert_eq!(rt; book.write(buffer), Ok(len));
-    assert!(rt; *buffer == *expected);
-    Ok(())
+    check_eq(book.write(buffer), Ok(len))?;
+    check(*buffer == *expected)
 }
 
 // The book does not write to the buffer.
-fn check_short(
-    rt: &impl Abort,
-    book: &PackedRecord,
-    buffer: &mut [u8],
-    expected: &[u8],
-) -> Result<(), Fail> {
-    assert_eq!(rt; book.write(buffer), Err(Refusal::BufferTooShort));
-    assert!(rt; *buffer == *expected);
-    Ok(())
+fn check_short(book: &PackedRecord, buffer: &mut [u8], expected: &[u8]) -> Result<(), Fail> {
+    check_eq(book.write(buffer), Err(Refusal::BufferTooShort))?;
+    check(*buffer == *expected)
 }
 
 #[test]
@@ -63,22 +55,22 @@ fn example(rt: HostRuntime) {
 }
 
 // A record of one attribute is loaded, written, and emptied.
-fn check_single(rt: &impl Abort, attribute: u8, high: u8, low: u8) -> Result<(), Fail> {
+fn check_single(attribute: u8, high: u8, low: u8) -> Result<(), Fail> {
     let mut book = PackedRecord::new();
-    assert_eq!(rt; book.load(&[high, low, 1, 2, 3, 4]), Ok(()));
-    assert_eq!(rt; book.look(attribute), Ok(Some(0x0102_0304)));
-    check_short(rt, &book, &mut [9; 5], &[9; 5])?;
+    check_eq(book.load(&[high, low, 1, 2, 3, 4]), Ok(()))?;
+    check_eq(book.look(attribute), Ok(Some(0x0102_0304)))?;
+    check_short(&book, &mut [9; 5], &[9; 5])?;
     let mut buffer = [9; 7];
-    check_written(rt, &book, &mut buffer, 6, &[high, low, 1, 2, 3, 4, 9])?;
-    assert_eq!(rt; book.set(attribute, None), Ok(()));
-    check_written(rt, &book, &mut buffer, 2, &[0, 0, 1, 2, 3, 4, 9])
+    check_written(&book, &mut buffer, 6, &[high, low, 1, 2, 3, 4, 9])?;
+    check_eq(book.set(attribute, None), Ok(()))?;
+    check_written(&book, &mut buffer, 2, &[0, 0, 1, 2, 3, 4, 9])
 }
 
 #[test]
 fn each_attribute(rt: HostRuntime) -> Result<(), Fail> {
     for attribute in 0..16u8 {
         let [high, low] = SINGLE[attribute as usize];
-        check_single(&rt, attribute, high, low)?;
+        check_single(attribute, high, low)?;
     }
     Ok(())
 }
@@ -93,8 +85,8 @@ fn all_sixteen(rt: HostRuntime) -> Result<(), Fail> {
     assert_eq!(rt; book.load(&source), Ok(()));
     assert_eq!(rt; book.look(0), Ok(Some(0x0203_0405)));
     assert_eq!(rt; book.look(15), Ok(Some(0x3E3F_4041)));
-    check_short(&rt, &book, &mut [9; 65], &[9; 65])?;
-    check_written(&rt, &book, &mut [9; 66], 66, &source)
+    check_short(&book, &mut [9; 65], &[9; 65])?;
+    check_written(&book, &mut [9; 66], 66, &source)
 }
 
 #[test]
@@ -104,29 +96,29 @@ fn none(rt: HostRuntime) -> Result<(), Fail> {
     assert_eq!(rt; book.load(&[0, 0]), Ok(()));
     assert_eq!(rt; book.look(0), Ok(None));
     assert_eq!(rt; book.look(2), Ok(None));
-    check_short(&rt, &book, &mut [9], &[9])?;
-    check_written(&rt, &book, &mut [9, 9], 2, &[0, 0])
+    check_short(&book, &mut [9], &[9])?;
+    check_written(&book, &mut [9, 9], 2, &[0, 0])
 }
 
 // The bytes are no record, and the book keeps its facts.
-fn check_refused(rt: &impl Abort, book: &mut PackedRecord, source: &[u8]) -> Result<(), Fail> {
-    assert_eq!(rt; book.load(source), Err(Refusal::WrongLength));
-    check_written(rt, book, &mut [9; 10], 10, &EXAMPLE)
+fn check_refused(book: &mut PackedRecord, source: &[u8]) -> Result<(), Fail> {
+    check_eq(book.load(source), Err(Refusal::WrongLength))?;
+    check_written(book, &mut [9; 10], 10, &EXAMPLE)
 }
 
 #[test]
 fn wrong_lengths(rt: HostRuntime) -> Result<(), Fail> {
     let mut book = PackedRecord::new();
     assert_eq!(rt; book.load(&EXAMPLE), Ok(()));
-    check_refused(&rt, &mut book, &[])?;
-    check_refused(&rt, &mut book, &[0])?;
-    check_refused(&rt, &mut book, &[0, 0, 0])?;
-    check_refused(&rt, &mut book, &[0, 1])?;
-    check_refused(&rt, &mut book, &[0, 1, 0, 0, 5])?;
-    check_refused(&rt, &mut book, &[0, 1, 0, 0, 0, 5, 0])?;
-    check_refused(&rt, &mut book, &[0, 3, 0, 0, 0, 5])?;
-    check_refused(&rt, &mut book, &[255; 65])?;
-    check_refused(&rt, &mut book, &[255; 67])
+    check_refused(&mut book, &[])?;
+    check_refused(&mut book, &[0])?;
+    check_refused(&mut book, &[0, 0, 0])?;
+    check_refused(&mut book, &[0, 1])?;
+    check_refused(&mut book, &[0, 1, 0, 0, 5])?;
+    check_refused(&mut book, &[0, 1, 0, 0, 0, 5, 0])?;
+    check_refused(&mut book, &[0, 3, 0, 0, 0, 5])?;
+    check_refused(&mut book, &[255; 65])?;
+    check_refused(&mut book, &[255; 67])
 }
 
 #[test]
@@ -137,7 +129,6 @@ fn gaps(rt: HostRuntime) -> Result<(), Fail> {
     assert_eq!(rt; book.set(5, Some(0x0505_0505)), Ok(()));
     let mut buffer = [1; 14];
     check_written(
-        &rt,
         &book,
         &mut buffer,
         14,
@@ -146,7 +137,6 @@ fn gaps(rt: HostRuntime) -> Result<(), Fail> {
     assert_eq!(rt; book.set(5, None), Ok(()));
     assert_eq!(rt; book.set(9, Some(7)), Ok(()));
     check_written(
-        &rt,
         &book,
         &mut buffer,
         10,
