@@ -67,7 +67,7 @@ fn check_single(attribute: u8, high: u8, low: u8) -> Result<(), Fail> {
 }
 
 #[test]
-fn each_attribute(rt: HostRuntime) -> Result<(), Fail> {
+fn each_attribute() -> Result<(), Fail> {
     for attribute in 0..16u8 {
         let [high, low] = SINGLE[attribute as usize];
         check_single(attribute, high, low)?;
