@@ -1,5 +1,6 @@
 -- What calls on any desk come to, above the single call. Assumes nothing.
-use Rattle.std.specs.Prelude.{◌≡◌, ℕ, ◌+◌, ◌<◌, ◌≤◌, true, cond, List, [], ◌∷◌, ◌++◌, length, is_some, Some, None, Ok, Err, Result, ◌==◌}
+use Rattle.std.specs.Prelude.{◌≡◌, ℕ, ◌<◌, ◌≤◌, true, List, [], ◌∷◌, ◌++◌, length, count_by, is_some, Some, None, Ok, Err, Result, ◌==◌}
+use Rattle.std.specs.List.{AllByRecursion}
 use Rattle.desk.specs.declared.Order.{Order}
 use Rattle.desk.specs.declared.Refusal.{Refusal}
 use Rattle.desk.specs.declared.Refusal.TheVariants.{Full, AlreadyOpen, NotOpen}
@@ -8,13 +9,11 @@ use Rattle.desk.specs.Sets.{union}
 
 -- how many orders have the number n
 abbrev pub numbered : ℕ → List Order → ℕ
-numbered n [] = 0
-numbered n (x ∷ xs) = cond (x.number == n) 1 0 + numbered n xs
+numbered n xs = count_by (λ x. x.number == n) xs
 
 -- every number is below n
 abbrev pub AllBelow : ℕ → List Order → Type 0
-AllBelow n [] = Unit {0}
-AllBelow n (x ∷ xs) = (x.number < n) × AllBelow n xs
+AllBelow n = AllByRecursion (λ x. x.number < n)
 
 -- an order with a number above all others is opened: it comes last, unless 64 are open
 abbrev pub OpenedLast : Order → List Order → List Order → Result (Unit {0}) Refusal → Type 0

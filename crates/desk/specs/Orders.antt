@@ -1,6 +1,7 @@
 -- The open orders of a desk, and what each call does to them. Assumes nothing.
 -- The orders stand in a list by rising number. Numbers are distinct, so equal sets of orders are equal lists.
 use Rattle.std.specs.Prelude.{◌≡◌, ℕ, ◌<◌, ◌≤◌, true, false, cond, List, [], ◌∷◌, length, is_some, Some, None, Ok, Err, Option, Result, ◌==◌, nat_lt}
+use Rattle.std.specs.List.{find}
 use Rattle.desk.specs.declared.Order.{Order}
 use Rattle.desk.specs.declared.Refusal.{Refusal}
 use Rattle.desk.specs.declared.Refusal.TheVariants.{Full, AlreadyOpen, NotOpen}
@@ -18,8 +19,7 @@ inserted o (x ∷ xs) = cond (nat_lt o.number x.number) (o ∷ x ∷ xs) (x ∷ 
 
 -- the order numbered n
 abbrev pub look_up : ℕ → List Order → Option Order
-look_up n [] = None
-look_up n (x ∷ xs) = cond (x.number == n) (Some x) (look_up n xs)
+look_up n = find (λ x. x.number == n)
 
 -- all but the order numbered n
 abbrev pub without : ℕ → List Order → List Order

@@ -1,6 +1,7 @@
 -- The split desk: the orders of two desks together. Assumes nothing.
 use Rattle.std.specs.Prelude.{ℕ, ◌+◌, ◌<◌, ◌≤◌, List, length}
 use Rattle.std.specs.List.{AllByRecursion}
+use Rattle.desk.specs.declared.Desk.{Ghosts}
 use Rattle.desk.specs.declared.Order.{Order}
 use Rattle.desk.specs.declared.split.Split.{Split}
 use Rattle.desk.specs.Sets.{union, Disjoint}
@@ -15,10 +16,12 @@ pub record Sides (P Q : Type 0) (b : ℕ) (xs ys : List Order) : Type 0 where
   pub low : AllByRecursion (λ o. o.activity < b) xs
   pub high : AllByRecursion (λ o. b ≤ o.activity) ys
 
-module _ {F S : Type 0} where
-  -- the orders of both, from those of each
-  abbrev pub together : (F → List Order) → (S → List Order) → Split F S → List Order
-  together f s d = union (f d.first) (s d.second)
+-- of the split of two kinds of desk, from what each kind means
+module _ {F S : Type 0} (first : Ghosts F) (second : Ghosts S) where
+  -- the orders of both
+  abbrev pub together : Split F S → List Order
+  together d = union (first.orders d.first) (second.orders d.second)
 
-  abbrev pub SplitSound : (F → Type 0) → (S → Type 0) → (F → List Order) → (S → List Order) → Split F S → Type 0
-  SplitSound p q f s d = Sides (p d.first) (q d.second) d.bound (f d.first) (s d.second)
+  -- both are sound, and lie apart
+  abbrev pub SplitSound : Split F S → Type 0
+  SplitSound d = Sides (first.sound d.first) (second.sound d.second) d.bound (first.orders d.first) (second.orders d.second)

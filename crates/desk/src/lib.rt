@@ -12,22 +12,22 @@ pub mod split;
 pub const CAPACITY: usize = 64;
 
 // Work given out: the activity to be done, for the node that asked for it. The number is any u32.
-#[derive(Clone, Copy)]
+#[derive(Clone, Copy, PartialEq, Eq, Debug)]
 pub struct Order {
     pub number: u32,
     pub node: u8,
     pub activity: u8,
 }
 
-// Why a desk refuses a call.
-#[derive(Clone, Copy)]
+// Why a desk refuses a call, and the number under which that is told.
+#[derive(Clone, Copy, PartialEq, Eq, Debug)]
 pub enum Refusal {
     // 64 orders are open.
-    Full,
+    Full = 41,
     // An order of this number is open.
-    AlreadyOpen,
+    AlreadyOpen = 42,
     // No order of this number is open.
-    NotOpen,
+    NotOpen = 43,
 }
 
 impl Refusal {
@@ -35,11 +35,7 @@ impl Refusal {
     pub fn number(self) -> u8
         ensures { result ≡ refusal_number self }
     {
-        match self {
-            Refusal::Full => 41,
-            Refusal::AlreadyOpen => 42,
-            Refusal::NotOpen => 43,
-        }
+        self as u8
     }
 }
 

@@ -23,58 +23,54 @@ enum Call {
 #[derive(Clone, Copy, PartialEq, Eq, Debug)]
 enum Answer {
     Done,
-    // The node and the activity of an order.
-    Found(u8, u8),
-    Absent,
+    // The node and the activity of the order, if there is one.
+    Found(Option<(u8, u8)>),
     Number(usize),
-    Refused(u8),
 }
 
 use Answer::*;
 use Call::*;
+use Refusal::*;
 
-fn done(res: Result<(), Refusal>) -> Answer {
-    match res {
-        Ok(()) => Done,
-        Err(refusal) => Refused(refusal.number()),
-    }
+fn node_and_activity(order: Order) -> (u8, u8) {
+    (order.node, order.activity)
 }
 
-fn open_run<D: Desk>(desk: &mut D, first: u32, count: u32) -> Answer {
+fn open_run<D: Desk>(desk: &mut D, first: u32, count: u32) -> Result<(), Refusal> {
     for k in 0..count {
-        let order = Order {
+        desk.open_order(Order {
             number: first.wrapping_add(k),
             node: 0,
             activity: (k % 20) as u8,
-        };
-        if let Err(refusal) = desk.open_order(order) {
-            return Refused(refusal.number());
-        }
+        })?;
     }
-    Done
+    Ok(())
 }
 
-fn make_call<D: Desk>(desk: &mut D, call: Call) -> Answer {
+fn make_call<D: Desk>(desk: &mut D, call: Call) -> Result<Answer, Refusal> {
     match call {
         Empty => {
             desk.empty();
-            Done
+            Ok(Done)
         }
-        Open(number, node, activity) => done(desk.open_order(Order {
-            number,
-            node,
-            activity,
-        })),
-        OpenRun(first, count) => open_run(desk, first, count),
-        Close(number) => match desk.close_order(number) {
-            Ok(order) => Found(order.node, order.activity),
-            Err(refusal) => Refused(refusal.number()),
-        },
-        LookUp(number) => match desk.look_up(number) {
-            Some(order) => Found(order.node, order.activity),
-            None => Absent,
-        },
-        Count => Number(desk.count()),
+        Open(number, node, activity) => {
+            desk.open_order(Order {
+                number,
+                node,
+                activity,
+            })?;
+            Ok(Done)
+        }
+        OpenRun(first, count) => {
+            open_run(desk, first, count)?;
+            Ok(Done)
+        }
+        Close(number) => {
+            let order = desk.close_order(number)?;
+            Ok(Found(Some(node_and_activity(order))))
+        }
+        LookUp(number) => Ok(Found(desk.look_up(number).map(node_and_activity))),
+        Count => Ok(Number(desk.count())),
     }
 }
 
@@ -94,48 +90,48 @@ mod tests {
     use std::test::Fail;
 
     // The split desks are divided at activity 10.
-    const TABLE: [(Call, Answer); 37] = [
-        (Empty, Done),
-        (Count, Number(0)),
-        (LookUp(0), Absent),
-        (Close(0), Refused(43)),
+    const TABLE: [(Call, Result<Answer, Refusal>); 37] = [
+        (Empty, Ok(Done)),
+        (Count, Ok(Number(0))),
+        (LookUp(0), Ok(Found(None))),
+        (Close(0), Err(NotOpen)),
         // Three numbers of remainder 63: for the later two the holes are probed round to the first.
-        (Open(63, 1, 9), Done),
-        (Open(127, 2, 10), Done),
-        (Open(191, 3, 0), Done),
-        (LookUp(63), Found(1, 9)),
-        (LookUp(127), Found(2, 10)),
-        (LookUp(191), Found(3, 0)),
-        (Count, Number(3)),
+        (Open(63, 1, 9), Ok(Done)),
+        (Open(127, 2, 10), Ok(Done)),
+        (Open(191, 3, 0), Ok(Done)),
+        (LookUp(63), Ok(Found(Some((1, 9))))),
+        (LookUp(127), Ok(Found(Some((2, 10))))),
+        (LookUp(191), Ok(Found(Some((3, 0))))),
+        (Count, Ok(Number(3))),
         // A number that is open, on either side of the bound.
-        (Open(63, 4, 9), Refused(42)),
-        (Open(63, 4, 10), Refused(42)),
-        (Open(127, 4, 9), Refused(42)),
-        (LookUp(63), Found(1, 9)),
-        (Count, Number(3)),
+        (Open(63, 4, 9), Err(AlreadyOpen)),
+        (Open(63, 4, 10), Err(AlreadyOpen)),
+        (Open(127, 4, 9), Err(AlreadyOpen)),
+        (LookUp(63), Ok(Found(Some((1, 9))))),
+        (Count, Ok(Number(3))),
         // A closing leaves the others to be found, and takes its order out once.
-        (Close(127), Found(2, 10)),
-        (Close(127), Refused(43)),
-        (LookUp(127), Absent),
-        (LookUp(191), Found(3, 0)),
-        (Open(0, 5, 63), Done),
-        (Open(4294967295, 6, 255), Done),
-        (LookUp(4294967295), Found(6, 255)),
-        (Count, Number(4)),
+        (Close(127), Ok(Found(Some((2, 10))))),
+        (Close(127), Err(NotOpen)),
+        (LookUp(127), Ok(Found(None))),
+        (LookUp(191), Ok(Found(Some((3, 0))))),
+        (Open(0, 5, 63), Ok(Done)),
+        (Open(4294967295, 6, 255), Ok(Done)),
+        (LookUp(4294967295), Ok(Found(Some((6, 255))))),
+        (Count, Ok(Number(4))),
         // 64 are open: that is told first, even of a number that is open.
-        (OpenRun(1000, 59), Done),
-        (Count, Number(63)),
-        (Open(2000, 7, 10), Done),
-        (Open(2001, 7, 9), Refused(41)),
-        (Open(2001, 7, 10), Refused(41)),
-        (Open(63, 7, 9), Refused(41)),
-        (Count, Number(64)),
-        (Close(0), Found(5, 63)),
-        (Open(2001, 8, 9), Done),
-        (LookUp(2001), Found(8, 9)),
-        (LookUp(1058), Found(0, 18)),
-        (Empty, Done),
-        (LookUp(191), Absent),
+        (OpenRun(1000, 59), Ok(Done)),
+        (Count, Ok(Number(63))),
+        (Open(2000, 7, 10), Ok(Done)),
+        (Open(2001, 7, 9), Err(Full)),
+        (Open(2001, 7, 10), Err(Full)),
+        (Open(63, 7, 9), Err(Full)),
+        (Count, Ok(Number(64))),
+        (Close(0), Ok(Found(Some((5, 63))))),
+        (Open(2001, 8, 9), Ok(Done)),
+        (LookUp(2001), Ok(Found(Some((8, 9))))),
+        (LookUp(1058), Ok(Found(Some((0, 18))))),
+        (Empty, Ok(Done)),
+        (LookUp(191), Ok(Found(None))),
     ];
 
     fn meets_the_table<D: Desk>(desk: &mut D) -> Result<(), Fail> {
@@ -168,6 +164,13 @@ mod tests {
         let low = Split::new(Tray::new(), Pigeonholes::new(), 5);
         let high = Split::new(Pigeonholes::new(), Tray::new(), 100);
         meets_the_table(&mut Split::new(low, high, 10))
+    }
+
+    #[test]
+    fn refusals_are_told_by_number(rt: HostRuntime) {
+        assert_eq!(rt; Full.number(), 41);
+        assert_eq!(rt; AlreadyOpen.number(), 42);
+        assert_eq!(rt; NotOpen.number(), 43);
     }
 
     #[test]

@@ -1,2 +1,3 @@
 pub mod Trays
+pub mod Inside
 pub mod TrayLaws

@@ -1,14 +1,14 @@
 // The tray: orders as they came, without gaps.
 #![tactic(auto)]
 
-ghost use Rattle.std.specs.Prelude.{◌≡◌, ℕ, ◌<◌, ◌≤◌, [], length, take, Some, None, Ok, MatchOption, slice_index_or};
+ghost use Rattle.std.specs.Prelude.{◌≡◌, ◌<◌, [], ◌∷◌, ◌++◌, length, None, MatchOption, slice_index_or};
+ghost use Rattle.std.specs.List.{remove};
 ghost use Rattle.desk.specs.Orders.{look_up, CanOpen, Opened, Closed};
 ghost use Rattle.desk.specs.Sets.{sorted};
-ghost use Rattle.tray.specs.Trays.{blank, TraySound, Joined, Parted};
-ghost use Rattle.desk.specs.SetLaws.{ascending_sorted};
-ghost use Rattle.tray.specs.TrayLaws.{few_tray};
+ghost use Rattle.tray.specs.Trays.{TraySound, PlacedAt, Joined, Parted};
 
 use desk::{CAPACITY, Desk, Order, Refusal};
+use std::marker::Model;
 
 const BLANK: Order = Order {
     number: 0,
@@ -16,31 +16,38 @@ const BLANK: Order = Order {
     activity: 0,
 };
 
-// The first `len` slots hold the orders.
+// The first `len` slots hold the orders, and the others are blank. The length stands beside the slots,
+// since there is no heap and a tray is copied as a whole: a vector in a fixed space is not `Copy`.
 #[derive(Clone, Copy)]
 pub struct Tray {
     slots: [Order; CAPACITY],
     len: usize,
-    ghost few: { len ≤ 64 },
 }
 
-// Where the order of this number stands.
-fn position(orders: &[Order], number: u32) -> Option<usize>
-    ensures { MatchOption result (look_up number orders.now ≡ None) (λ i. (i < length orders.now) × (look_up number orders.now ≡ Some (slice_index_or orders.now i blank))) }
-{
-    for (i, order) in orders.iter().enumerate() {
-        if order.number == number {
-            return Some(i);
-        }
-    }
-    None
+impl Model for Tray {
+    ghost use Rattle.std.specs.Prelude.{List, take};
+    ghost use Rattle.desk.specs.declared.Order.{Order};
+    ghost use Rattle.tray.specs.Trays.{Filled};
+
+    // The orders as they came.
+    ghost Value = { List Order };
+
+    ghost use Rattle.tray.specs.Inside.{stored, stored_back};
+
+    ghost view = { λ a. take a.len a.slots };
+
+    ghost invariant = { λ a. Filled a.slots a.len };
+
+    ghost inverse = { stored };
+
+    ghost inverse_ok = { stored_back };
 }
 
 impl Tray {
     // A tray that is emptied already.
     pub fn new() -> Tray
-        ensures sound { TraySound result.slots result.len }
-        ensures none { sorted (take result.len result.slots) ≡ [] }
+        ensures sound { TraySound result }
+        ensures none { sorted result ≡ [] }
     {
         Tray {
             slots: [BLANK; CAPACITY],
@@ -48,100 +55,100 @@ impl Tray {
         }
     }
 
-    // The orders as they came.
+    // The orders as they came. The check knows the invariant just where a field is used: to those who
+    // use none, this and `place` tell that the tray is sound.
     fn arrived(&self) -> &[Order]
-        ensures { result.now ≡ take self.now.len self.now.slots }
+        ensures is { result.now ≡ self.now }
+        ensures sound { TraySound self.now }
     {
-        &self.slots[0..self.len]
+        &self.slots[..self.len]
     }
 
-    fn size(&self) -> usize
-        ensures is { result ≡ self.now.len }
-        ensures counts { TraySound self.now.slots self.now.len → result ≡ length (sorted (take self.now.len self.now.slots)) }
-    {
-        self.len
-    }
-
-    // The slot of the order of this number.
+    // Where the order of this number lies.
     fn place(&self, number: u32) -> Option<usize>
-        ensures { MatchOption result (TraySound self.now.slots self.now.len → look_up number (sorted (take self.now.len self.now.slots)) ≡ None) (λ i. (i < self.now.len) × (look_up number (take self.now.len self.now.slots) ≡ Some (slice_index_or self.now.slots i blank)) × (TraySound self.now.slots self.now.len → look_up number (sorted (take self.now.len self.now.slots)) ≡ Some (slice_index_or self.now.slots i blank))) }
+        ensures at { MatchOption result (look_up number self.now ≡ None) (PlacedAt number self.now) }
+        ensures sound { TraySound self.now }
     {
-        position(self.arrived(), number)
+        self.arrived()
+            .iter()
+            .position(|order| order.number == number)
     }
 
     // Puts an order behind the others.
-    fn append(&mut self, order: Order)
-        requires { self.old.len < 64 }
-        ensures sound { TraySound self.old.slots self.old.len → CanOpen order (sorted (take self.old.len self.old.slots)) → TraySound self.new.slots self.new.len }
-        ensures opened { TraySound self.old.slots self.old.len → CanOpen order (sorted (take self.old.len self.old.slots)) → Opened order (sorted (take self.old.len self.old.slots)) (sorted (take self.new.len self.new.slots)) (Ok tt) }
-        ensures joined { TraySound self.old.slots self.old.len → Joined order (take self.old.len self.old.slots) (take self.new.len self.new.slots) (Ok tt) }
+    fn push(&mut self, order: Order)
+        requires { CanOpen order self.old }
+        ensures { self.new ≡ self.old ++ order ∷ [] }
     {
         self.slots[self.len] = order;
         self.len += 1;
     }
 
-    // Takes the order of slot `i` out, and closes the gap.
+    // Takes the order at `i` out, and closes the gap.
     fn remove(&mut self, i: usize) -> Order
-        requires { i < self.old.len }
-        ensures sound { (n : ℕ) → TraySound self.old.slots self.old.len → look_up n (take self.old.len self.old.slots) ≡ Some (slice_index_or self.old.slots i blank) → TraySound self.new.slots self.new.len }
-        ensures closed { (n : ℕ) → TraySound self.old.slots self.old.len → look_up n (take self.old.len self.old.slots) ≡ Some (slice_index_or self.old.slots i blank) → Closed n (sorted (take self.old.len self.old.slots)) (sorted (take self.new.len self.new.slots)) (Ok result) }
-        ensures parted { (n : ℕ) → TraySound self.old.slots self.old.len → look_up n (take self.old.len self.old.slots) ≡ Some (slice_index_or self.old.slots i blank) → Parted n (take self.old.len self.old.slots) (take self.new.len self.new.slots) (Ok result) }
+        requires { i < length self.old }
+        ensures taken { result ≡ slice_index_or self.old i BLANK }
+        ensures left { self.new ≡ remove self.old i }
     {
-        let order = self.slots[i];
-        self.slots[i..self.len].rotate_left(1);
         self.len -= 1;
+        let order = std::mem::replace(&mut self.slots[i], BLANK);
+        self.slots[i..].rotate_left(1);
         order
     }
 }
 
 impl Desk for Tray {
-    ghost orders = { λ t. sorted (take t.len t.slots) };
+    ghost use Rattle.desk.specs.SetLaws.{ascending_sorted};
+    ghost use Rattle.tray.specs.TrayLaws.{few_tray};
 
-    ghost sound = { λ t. TraySound t.slots t.len };
+    ghost orders = { sorted };
 
-    ghost ascending = { λ d s. ascending_sorted (take d.len d.slots) s.distinct };
+    ghost sound = { TraySound };
 
-    ghost few = { λ d s. few_tray d.slots d.len d.few s };
+    ghost ascending = { λ d s. ascending_sorted d s.distinct };
+
+    ghost few = { few_tray };
 
     fn empty(&mut self) {
-        self.slots = [BLANK; CAPACITY];
-        self.len = 0;
+        *self = Tray::new();
     }
 
+    #[tactic(auto, using(crate::specs::TrayLaws::calls))]
     fn open_order(&mut self, order: Order) -> Result<(), Refusal>
-        ensures sound { TraySound self.old.slots self.old.len → TraySound self.new.slots self.new.len }
-        ensures opened { TraySound self.old.slots self.old.len → Opened order (sorted (take self.old.len self.old.slots)) (sorted (take self.new.len self.new.slots)) result }
-        ensures joined { TraySound self.old.slots self.old.len → Joined order (take self.old.len self.old.slots) (take self.new.len self.new.slots) result }
+        ensures sound { TraySound self.new }
+        ensures opened { Opened order (sorted self.old) (sorted self.new) result }
+        ensures joined { Joined order self.old self.new result }
     {
-        if self.size() >= CAPACITY {
+        if self.len >= CAPACITY {
             return Err(Refusal::Full);
         }
         if self.look_up(order.number).is_some() {
             return Err(Refusal::AlreadyOpen);
         }
-        self.append(order);
+        self.push(order);
         Ok(())
     }
 
+    #[tactic(auto, using(crate::specs::TrayLaws::calls))]
     fn close_order(&mut self, number: u32) -> Result<Order, Refusal>
-        ensures sound { TraySound self.old.slots self.old.len → TraySound self.new.slots self.new.len }
-        ensures closed { TraySound self.old.slots self.old.len → Closed number (sorted (take self.old.len self.old.slots)) (sorted (take self.new.len self.new.slots)) result }
-        ensures parted { TraySound self.old.slots self.old.len → Parted number (take self.old.len self.old.slots) (take self.new.len self.new.slots) result }
+        ensures sound { TraySound self.new }
+        ensures closed { Closed number (sorted self.old) (sorted self.new) result }
+        ensures parted { Parted number self.old self.new result }
     {
-        let Some(i) = self.place(number) else {
-            return Err(Refusal::NotOpen);
-        };
+        let i = self.place(number).ok_or(Refusal::NotOpen)?;
         Ok(self.remove(i))
     }
 
-    fn look_up(&self, number: u32) -> Option<Order> {
-        match self.place(number) {
-            Some(i) => Some(self.slots[i]),
-            None => None,
-        }
+    #[tactic(auto, using(crate::specs::TrayLaws::calls))]
+    fn look_up(&self, number: u32) -> Option<Order>
+        ensures { result ≡ look_up number (sorted self.now) }
+    {
+        Some(self.arrived()[self.place(number)?])
     }
 
-    fn count(&self) -> usize {
-        self.size()
+    #[tactic(auto, using(crate::specs::TrayLaws::calls))]
+    fn count(&self) -> usize
+        ensures { result ≡ length (sorted self.now) }
+    {
+        self.arrived().len()
     }
 }
