@@ -1,6 +1,7 @@
 -- A map and then only the fields whose bit stands, for fields of any kind. Assumes nothing.
-use Rattle.std.specs.Prelude.{ℕ, zero, suc, ◌+◌, ◌*◌, ◌/◌, ◌%◌, ◌<◌, cond, List, [], ◌∷◌, drop, Some, None, Option, ◌==◌, slice_index}
+use Rattle.std.specs.Prelude.{ℕ, zero, suc, ◌/◌, ◌%◌, ◌<◌, cond, List, [], ◌∷◌, map, drop, Some, None, Option, is_some, ◌==◌, slice_index}
 use Rattle.std.specs.List.{flat_map}
+use Rattle.std.specs.Simd.Lanes.{mask_l}
 
 -- each is a byte
 abbrev pub Bytes : List ℕ → Type 0
@@ -8,13 +9,11 @@ Bytes bs = (k : ℕ) → slice_index bs k < 256
 
 -- the bit of a field
 abbrev pub flag : {A : Type 0} → Option A → ℕ
-flag None = 0
-flag (Some v) = 1
+flag f = cond (is_some f) 1 0
 
 -- the map, in which bit k stands where field k is there
 abbrev pub map_of : {A : Type 0} → List (Option A) → ℕ
-map_of [] = 0
-map_of (f ∷ fs) = map_of fs * 2 + flag f
+map_of fs = mask_l (map is_some fs)
 
 abbrev pub optional : {A : Type 0} → (A → List ℕ) → Option A → List ℕ
 optional write None = []

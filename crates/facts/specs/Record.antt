@@ -1,5 +1,6 @@
 -- The packed record: two bytes of map, then four bytes for each fact that is there, highest byte first. Assumes nothing.
-use Rattle.std.specs.Prelude.{◌≡◌, ℕ, ◌+◌, ◌*◌, ◌/◌, ◌%◌, ◌^◌, ◌<◌, ◌≤◌, Bool, true, false, ◌&&◌, List, [], ◌∷◌, ◌++◌, length, drop, replicate, Some, None, Ok, Err, Option, Result, ◌==◌, count_ones, nat_le, slice_index}
+use Rattle.std.specs.Prelude.{◌≡◌, ℕ, ◌+◌, ◌*◌, ◌%◌, ◌^◌, ◌<◌, ◌≤◌, Bool, true, false, ◌&&◌, List, [], ◌∷◌, ◌++◌, length, drop, replicate, Some, None, Ok, Err, Option, Result, ◌==◌, count_ones, nat_le}
+use Rattle.std.specs.Int.{w16, w32, to_be_bytes, from_be_bytes}
 use Rattle.facts.specs.declared.Refusal.{Refusal}
 use Rattle.facts.specs.declared.Refusal.TheVariants.{WrongLength, BufferTooShort}
 use Rattle.facts.specs.Facts.{Facts}
@@ -7,16 +8,16 @@ use Rattle.facts.specs.Packing.{Bytes, map_of, packed, unpacked}
 
 -- a number in two bytes and in four, and the number that stands in front
 abbrev pub two : ℕ → List ℕ
-two v = (v / 256 % 256) ∷ (v % 256) ∷ []
+two v = to_be_bytes w16 v
 
 abbrev pub two_of : List ℕ → ℕ
-two_of bs = slice_index bs 0 * 256 + slice_index bs 1
+two_of bs = from_be_bytes w16 bs
 
 abbrev pub four : ℕ → List ℕ
-four v = (v / 16777216 % 256) ∷ (v / 65536 % 256) ∷ (v / 256 % 256) ∷ (v % 256) ∷ []
+four v = to_be_bytes w32 v
 
 abbrev pub four_of : List ℕ → ℕ
-four_of bs = slice_index bs 0 * 16777216 + slice_index bs 1 * 65536 + slice_index bs 2 * 256 + slice_index bs 3
+four_of bs = from_be_bytes w32 bs
 
 -- the record of the facts
 unfoldable pub encode : List (Option ℕ) → List ℕ

@@ -1,62 +1,52 @@
 -- Facts and their record. Assumes nothing.
-use Rattle.std.specs.Prelude.{◌≡◌, ℕ, suc, ◌+◌, ◌*◌, ◌/◌, ◌%◌, ◌^◌, ◌<◌, ◌≤◌, true, ◌&&◌, ltb, List, [], ◌∷◌, ◌++◌, length, take, drop, Some, None, Option, ◌==◌, nat_eq, nat_le, nat_lt, refl}
-use Rattle.std.proofs.Common.{sym, ap, ◌∙◌, subst, arith, eqb-true, leb-true, ltb-true, eq-eqb, le-leb, lt-ltb}
+use Rattle.std.specs.Prelude.{◌≡◌, ℕ, ◌+◌, ◌-◌, ◌*◌, ◌/◌, ◌%◌, ◌^◌, ◌<◌, ◌≤◌, true, List, [], ◌∷◌, ◌++◌, length, take, drop, Some, None, Option, count_ones, nat_le, nat_lt, ◌==◌, refl}
+use Rattle.std.proofs.Common.{sym, ap, ◌∙◌, subst, arith, ltb-true, lt-ltb}
 use Rattle.std.specs.Int.Count.{ones, ones_in}
-use Rattle.std.proofs.lemmas.Nat.{ones-le}
-use Rattle.std.proofs.lemmas.List.{append-nil, length-append, nil_from_length, take_at}
-use Rattle.std.proofs.lemmas.Bool.{and_parts, and_from, lt-leb}
+use Rattle.std.proofs.lemmas.Nat.{ones-le, be_bytes_2, be_bytes_4, from_be_bytes-to_be_bytes_2, from_be_bytes-to_be_bytes_4}
+use Rattle.std.proofs.lemmas.List.{append-nil, length-append, length-drop, length-take-le, nil_from_length, take_at, take-append-drop}
+use Rattle.std.proofs.lemmas.Bool.Decides.{nat_tests}
+use Rattle.std.proofs.lemmas.List.{get_or-take}
 use Rattle.facts.specs.Facts.{Facts}
 use Rattle.facts.specs.Packing.{Bytes, map_of, packed, unpacked}
-use Rattle.facts.specs.Record.{two_of, four, four_of, encode, decode, whole, OneForEach, WorkedExample}
+use Rattle.facts.specs.Record.{two, two_of, four, four_of, encode, decode, whole, OneForEach, WorkedExample}
 use Rattle.facts.specs.Maps.{map_below, ones_map}
-use Rattle.facts.specs.Packings.{length-unpacked, map-unpacked, bytes_drop, unpacked_packed, packed_unpacked, good_unpacked}
+use Rattle.facts.specs.Packings.{IsFormat, length-unpacked, map-unpacked, bytes_drop, bytes_take, unpacked_packed, packed_unpacked, good_unpacked}
 
--- ---- numbers in four bytes
+-- ---- numbers in two and in four bytes
 
 pub four-reads : (v : ℕ) (t : List ℕ) → nat_lt v 4294967296 ≡ true → four_of (four v ++ t) ≡ v
-four-reads v t h =
-    let l = ltb-true v 4294967296 h in
-    let high : v / 16777216 % 256 ≡ v / 16777216 = omega arith in
-    let sum : v / 16777216 * 16777216 + v / 65536 % 256 * 65536 + v / 256 % 256 * 256 + v % 256 ≡ v = omega arith in
-    ap (λ x. x * 16777216 + v / 65536 % 256 * 65536 + v / 256 % 256 * 256 + v % 256) high ∙ sum
+four-reads v t h = from_be_bytes-to_be_bytes_4 v (ltb-true v 4294967296 h)
 
-four_writes : (bs : List ℕ) → Bytes bs → 4 ≤ length bs → four (four_of bs) ≡ take 4 bs
-four_writes [] b h = absurd (omega arith)
-four_writes (w ∷ []) b h = absurd (omega arith)
-four_writes (w ∷ x ∷ []) b h = absurd (omega arith)
-four_writes (w ∷ x ∷ y ∷ []) b h = absurd (omega arith)
-four_writes (w ∷ x ∷ y ∷ z ∷ t) b h =
-    let n = w * 16777216 + x * 65536 + y * 256 + z in
-    let b0 = b 0 in
-    let b1 = b 1 in
-    let b2 = b 2 in
-    let b3 = b 3 in
-    let digit0 : n / 16777216 % 256 ≡ w = omega arith in
-    let digit1 : n / 65536 % 256 ≡ x = omega arith in
-    let digit2 : n / 256 % 256 ≡ y = omega arith in
-    let digit3 : n % 256 ≡ z = omega arith in
-    cc
+four_of-take : (n : ℕ) (bs : List ℕ) → 4 ≤ n → four_of (take n bs) ≡ four_of bs
+four_of-take n bs h = grind (arith, get_or-take)
 
-four-fits : (bs : List ℕ) → Bytes bs → nat_lt (four_of bs) 4294967296 ≡ true
+two_of-take : (n : ℕ) (bs : List ℕ) → 2 ≤ n → two_of (take n bs) ≡ two_of bs
+two_of-take n bs h = grind (arith, get_or-take)
+
+pub four_writes : (bs : List ℕ) → Bytes bs → 4 ≤ length bs → four (four_of bs) ≡ take 4 bs
+four_writes bs b h = be_bytes_4 (take 4 bs) (four_of bs) (length-take-le 4 bs h) (bytes_take 4 bs b) (sym (four_of-take 4 bs (omega arith)))
+
+pub four-fits : (bs : List ℕ) → Bytes bs → nat_lt (four_of bs) 4294967296 ≡ true
 four-fits bs b = lt-ltb _ _ (omega (arith, b 0, b 1, b 2, b 3))
+
+pub four_format : IsFormat 4 four four_of (λ v. nat_lt v 4294967296)
+four_format = record { long = λ v. refl; reads = four-reads; writes = four_writes; fits = four-fits }
 
 -- ---- facts, and the bytes of a record with others behind it
 
 pub decode-encode : (fs : List (Option ℕ)) (rest : List ℕ) → Facts fs → decode (encode fs ++ rest) ≡ fs
 unfolding decode encode
 decode-encode fs rest f =
-    let m = map_of fs in
-    let low : m < 2 ^ 16 = subst (λ n. m < 2 ^ n) f.0 (map_below fs) in
-    let same : m / 256 % 256 * 256 + m % 256 ≡ m = omega arith in
-    ap (λ x. unpacked 4 four_of 16 x (packed four fs ++ rest)) same
-    ∙ ap (λ n. unpacked 4 four_of n m (packed four fs ++ rest)) (sym f.0)
-    ∙ unpacked_packed 4 four four_of (λ v. ltb v 4294967296) (λ v. refl) four-reads four_writes four-fits fs rest f.1
+    let low : map_of fs < 2 ^ 16 = subst (λ n. map_of fs < 2 ^ n) f.0 (map_below fs) in
+    ap (λ m. unpacked 4 four_of 16 m (packed four fs ++ rest)) (from_be_bytes-to_be_bytes_2 (map_of fs) low)
+    ∙ ap (λ n. unpacked 4 four_of n (map_of fs) (packed four fs ++ rest)) (sym f.0)
+    ∙ unpacked_packed _ _ _ _ four_format fs rest f.1
 
 pub decode-facts : (bs : List ℕ) → Bytes bs → Facts (decode bs)
 unfolding decode
 decode-facts bs b = (
   length-unpacked 4 four_of 16 (two_of bs) (drop 2 bs),
-  good_unpacked 4 four four_of (λ v. ltb v 4294967296) (λ v. refl) four-reads four_writes four-fits 16 (two_of bs) (drop 2 bs) (bytes_drop 2 bs b),
+  good_unpacked _ _ _ _ four_format 16 (two_of bs) (drop 2 bs) (bytes_drop 2 bs b),
 )
 
 pub map-decode : (bs : List ℕ) → Bytes bs → map_of (decode bs) ≡ two_of bs
@@ -73,33 +63,30 @@ unfolding encode
 length-encode fs = omega (arith, length-packed fs)
 
 -- a map of two bytes, and the fields that it asks for
-joined_up : (x y : ℕ) (t : List ℕ) (fs : List (Option ℕ)) (rest : List ℕ) → x < 256 → y < 256 → map_of fs ≡ x * 256 + y
+pub joined_up : (x y : ℕ) (t : List ℕ) (fs : List (Option ℕ)) (rest : List ℕ) → x < 256 → y < 256 → map_of fs ≡ x * 256 + y
     → t ≡ packed four fs ++ rest → x ∷ y ∷ t ≡ encode fs ++ rest
 unfolding encode
 joined_up x y t fs rest h k e p =
     let high : map_of fs / 256 % 256 ≡ x = omega arith in
     let low : map_of fs % 256 ≡ y = omega arith in
-    sym (rw (high, low) (ap (λ l. x ∷ y ∷ l) (sym p)))
+    grind (arith, high, low)
 
-packed-within : (fs : List (Option ℕ)) (m n : ℕ) → map_of fs ≡ m → 4 * ones m ≤ n → length (packed four fs) ≤ n
+pub packed-within : (fs : List (Option ℕ)) (m n : ℕ) → map_of fs ≡ m → 4 * ones m ≤ n → length (packed four fs) ≤ n
 packed-within fs m n e h = omega (arith, length-packed fs, ap ones e)
 
 pub encode-decode : (bs : List ℕ) → Bytes bs → 2 + 4 * ones (two_of bs) ≤ length bs → (rest : List ℕ) × (bs ≡ encode (decode bs) ++ rest)
-unfolding decode
-encode-decode [] b h = absurd (omega arith)
-encode-decode (x ∷ []) b h = absurd (omega arith)
-encode-decode (x ∷ y ∷ t) b h =
-    let m = x * 256 + y in
-    let room : 4 * ones m ≤ length t = omega arith in
-    let same = map-unpacked 4 four_of 16 m t (omega (arith, b 0, b 1)) in
-    let rest = packed_unpacked 4 four four_of (λ v. ltb v 4294967296) (λ v. refl) four-reads four_writes four-fits 16 m t
-    (bytes_drop 2 (x ∷ y ∷ t) b) (packed-within (unpacked 4 four_of 16 m t) m (length t) same room) in
-    (rest.0, joined_up x y t (unpacked 4 four_of 16 m t) rest.0 (b 0) (b 1) same rest.1)
+unfolding decode encode
+encode-decode bs b h =
+    let same = map-decode bs b in
+    let front : two (map_of (decode bs)) ≡ take 2 bs = be_bytes_2 (take 2 bs) _ (length-take-le 2 bs (omega arith)) (bytes_take 2 bs b) (same ∙ sym (two_of-take 2 bs (omega arith))) in
+    let room : length (packed four (decode bs)) ≤ length (drop 2 bs) = omega (arith, length-drop 2 bs, packed-within (decode bs) (two_of bs) (length bs - 2) same (omega arith)) in
+    let rest = packed_unpacked _ _ _ _ four_format 16 (two_of bs) (drop 2 bs) (bytes_drop 2 bs b) room in
+    (rest.0, sym (take-append-drop 2 bs) ∙ ap (λ l. l ++ drop 2 bs) (sym front) ∙ ap (λ l. two (map_of (decode bs)) ++ l) rest.1)
 
 -- ---- one for each
 
-whole_parts : (bs : List ℕ) → whole bs ≡ true → (2 ≤ length bs) × (length bs ≡ 2 + 4 * ones (two_of bs))
-whole_parts bs h = let p = and_parts (nat_le 2 (length bs)) _ h in (leb-true _ _ p.0, eqb-true _ _ p.1)
+pub whole_parts : (bs : List ℕ) → whole bs ≡ true → (2 ≤ length bs) × (length bs ≡ 2 + 4 * ones (two_of bs))
+whole_parts bs h = (grind (arith, nat_tests), grind (arith, nat_tests))
 
 pub bytes_back : (bs : List ℕ) → Bytes bs → whole bs ≡ true → encode (decode bs) ≡ bs
 bytes_back bs b h =
@@ -112,11 +99,10 @@ bytes_back bs b h =
 -- ---- a record in front of other bytes
 
 pub whole_long : (bs : List ℕ) (n : ℕ) → 2 ≤ length bs → n ≡ 2 + 4 * ones (two_of bs) → (length bs == n) ≡ whole bs
-whole_long bs n h e =
-    ap (nat_eq (length bs)) e ∙ sym (ap (λ t. t && length bs == 2 + 4 * ones (two_of bs)) (le-leb 2 (length bs) h))
+whole_long bs n h e = grind (arith, nat_tests)
 
 pub whole-cut : (bs : List ℕ) → length bs < 2 → nat_le 2 (length bs) ≡ whole bs
-whole-cut bs h = let no-map = lt-leb 2 (length bs) h in no-map ∙ sym (ap (λ t. t && length bs == 2 + 4 * ones (two_of bs)) no-map)
+whole-cut bs h = grind (arith, nat_tests)
 
 pub whole-short : (bs : List ℕ) → Bytes bs → whole bs ≡ true → length bs ≤ 66
 whole-short bs b h = omega (arith, (whole_parts bs h).1, ones-le 16 (two_of bs) (omega (arith, b 0, b 1)))
@@ -124,6 +110,13 @@ whole-short bs b h = omega (arith, (whole_parts bs h).1, ones-le 16 (two_of bs) 
 pub decode-front : (bs rest z : List ℕ) → Bytes bs → whole bs ≡ true → z ≡ bs ++ rest → decode z ≡ decode bs
 decode-front bs rest z b h e =
     ap decode (e ∙ ap (λ l. l ++ rest) (sym (bytes_back bs b h))) ∙ decode-encode (decode bs) rest (decode-facts bs b)
+
+-- the same under a name that functions can cite
+pub taken_over : (bs rest z : List ℕ) → Bytes bs → whole bs ≡ true → z ≡ bs ++ rest → decode z ≡ decode bs
+taken_over bs rest z b h e = decode-front bs rest z b h e
+
+pub given_back : (bs rest z : List ℕ) → Bytes bs → whole bs ≡ true → z ≡ bs ++ rest → bs ≡ encode (decode z)
+given_back bs rest z b h e = sym (ap encode (decode-front bs rest z b h e) ∙ bytes_back bs b h)
 
 pub record_front : (bs : List ℕ) (n : ℕ) → Bytes bs → n ≡ 2 + 4 * ones (two_of bs) → n ≤ length bs → take n bs ≡ encode (decode bs)
 record_front bs n b e h =
@@ -133,15 +126,12 @@ record_front bs n b e h =
 
 -- ---- every record is one of facts
 
-encoded_whole : (fs : List (Option ℕ)) → Facts fs → whole (encode fs) ≡ true
+pub encoded_whole : (fs : List (Option ℕ)) → Facts fs → whole (encode fs) ≡ true
 unfolding encode
 encoded_whole fs f =
-    let m = map_of fs in
-    let low : m < 2 ^ 16 = subst (λ n. m < 2 ^ n) f.0 (map_below fs) in
-    let same : m / 256 % 256 * 256 + m % 256 ≡ m = omega arith in
-    let n = suc (suc (length (packed four fs))) in
-    let k = m / 256 % 256 * 256 + m % 256 in
-    and_from (nat_le 2 n) (n == 2 + 4 * ones k) (le-leb 2 n (omega arith)) (eq-eqb n (2 + 4 * ones k) (omega (arith, length-packed fs, ap ones same)))
+    let low : map_of fs < 2 ^ 16 = subst (λ n. map_of fs < 2 ^ n) f.0 (map_below fs) in
+    let same : count_ones (two_of (two (map_of fs))) ≡ count_ones (map_of fs) = ap count_ones (from_be_bytes-to_be_bytes_2 (map_of fs) low) in
+    grind (arith, nat_tests, length-packed fs, same)
 
 pub one_for_each : OneForEach
 one_for_each = record {

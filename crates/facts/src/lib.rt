@@ -4,34 +4,31 @@
 ghost use Rattle.std.specs.Prelude.{◌≡◌, ℕ, List, None, Option, slice_index_or};
 ghost use Rattle.facts.specs.Facts.{Facts, Looked, Changed, SetAndLooked, number_of};
 
+mod attribute;
 pub mod packed;
 pub mod table;
 
-// Why a call on a fact book was refused. Nothing has changed then.
+// Why a call on a fact book was refused, with the number by which that is known outside. Nothing has changed then.
 #[derive(Clone, Copy, Debug, PartialEq, Eq)]
 pub enum Refusal {
     // the attribute is above 15
-    NoSuchAttribute,
+    NoSuchAttribute = 44,
     // a record of under two bytes, or of another length than its map asks for
-    WrongLength,
+    WrongLength = 45,
     // the buffer has no room for the record
-    BufferTooShort,
+    BufferTooShort = 46,
 }
 
 impl Refusal {
-    // The number by which the refusal is known outside.
     pub fn number(self) -> u8
         ensures { result ≡ number_of self }
     {
-        match self {
-            Refusal::NoSuchAttribute => 44,
-            Refusal::WrongLength => 45,
-            Refusal::BufferTooShort => 46,
-        }
+        self as u8
     }
 }
 
-// A fact book knows of each attribute, 0 to 15, that it is absent or which number it has.
+// A fact book knows of each attribute, 0 to 15, that it is absent or which number it has. An attribute comes as a byte: a
+// narrower type would ask more of callers, and the refusal of others is an answer to them.
 pub trait FactBook {
     // The facts, in the order of their attributes.
     ghost facts: { Self → List (Option ℕ) };
@@ -48,12 +45,10 @@ pub trait FactBook {
     fn value(&self, attribute: u8) -> Option<u32>
         ensures { result ≡ slice_index_or (facts self.now) attribute None }
     {
-        match self.look(attribute) {
-            Ok(found) => found,
-            Err(_) => None,
-        }
+        self.look(attribute).ok().flatten()
     }
 
+    // A law of every value of the type, so each book has it as a ghost field.
     ghost sixteen: { (b : Self) → Facts (facts b) };
 }
 

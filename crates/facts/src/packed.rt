@@ -1,52 +1,28 @@
 // A fact book that is a packed record.
-ghost use Rattle.std.specs.Prelude.{◌≡◌, ◌+◌, ◌-◌, ◌*◌, ◌/◌, ◌%◌, ◌^◌, ◌<◌, ◌≤◌, true, false, ◌++◌, length, take, drop, replicate, Some, None, ◌==◌, count_ones, slice_index_or, slice_set};
+ghost use Rattle.std.specs.Prelude.{◌≡◌, ◌+◌, ◌-◌, ◌*◌, ◌<◌, ◌≤◌, true, ◌++◌, length, take, drop, replicate, Some, None, is_some, IsSome, IsNone, count_ones, slice_index_or, slice_set};
 ghost use Rattle.facts.specs.Record.{Held, Loaded, Written, OneForEach, WorkedExample, decode, encode, four, four_of, place_of, two, two_of, whole};
 ghost use Rattle.facts.specs.Records.{decode-facts};
 
+use crate::attribute::Attribute;
 use crate::{FactBook, Refusal};
 
-// The most that a record takes: two bytes of map, and four for each of the sixteen attributes.
+// The most that a record takes: two bytes of map, and four for each of the sixteen attributes. There is no heap, and how
+// long a record is its map says, so no length stands beside the bytes.
 const ROOM: usize = 66;
 
 // A record in memory: two bytes of map with bit k for attribute k, then four bytes for each bit that stands, rising, highest byte first.
-// What lies behind the record means nothing.
+// What lies behind the record means nothing. So the facts do not give the bytes back, as `impl Model` asks of a `Copy` type.
 #[derive(Clone, Copy)]
 pub struct PackedRecord {
     bytes: [u8; ROOM],
     ghost ok: { Held bytes },
 }
 
-// The map in front of the bytes.
-fn map_in(bytes: &[u8]) -> u16
-    requires { 2 ≤ length bytes.now }
-    ensures { result ≡ two_of bytes.now }
-{
-    u16::from_be_bytes([bytes[0], bytes[1]])
-}
-
-// The number that stands at the place.
-fn number_at(bytes: &[u8], at: usize) -> u32
-    requires { at + 4 ≤ length bytes.now }
-    ensures { result ≡ four_of (drop at bytes.now) }
-{
-    u32::from_be_bytes([bytes[at], bytes[at + 1], bytes[at + 2], bytes[at + 3]])
-}
-
-// The attribute's bit of a map.
-fn bit(attribute: u8) -> u16
-    requires { attribute < 16 }
-    ensures value { result ≡ 2 ^ attribute }
-    ensures bound { 0 < result }
-{
-    1 << attribute
-}
-
-// Whether the attribute's bit stands.
-fn stands(map: u16, attribute: u8) -> bool
-    requires { attribute < 16 }
-    ensures { result ≡ (map / 2 ^ attribute % 2 == 1) }
-{
-    (map >> attribute) % 2 == 1
+// Where a field stands or would stand in a record.
+#[derive(Clone, Copy)]
+struct Place {
+    at: usize,
+    ghost low: { at ≤ 62 },
 }
 
 // How long a record with the map is.
@@ -57,173 +33,26 @@ fn record_len(map: u16) -> usize
     2 + 4 * map.count_ones() as usize
 }
 
-// Where the attribute's field stands or would stand: behind those of the attributes below it.
-fn place(map: u16, attribute: u8) -> usize
-    requires { attribute < 16 }
-    ensures value { result ≡ place_of map attribute }
-    ensures bound { result ≤ 62 }
-{
-    record_len(map % bit(attribute))
-}
-
-// Writes the part in front.
-fn put_front(bytes: &mut [u8], part: &[u8])
-    requires { length part.now ≤ length bytes.old }
-    ensures { bytes.new ≡ part.now ++ drop (length part.now) bytes.old }
-{
-    let end = part.len();
-    bytes[0..end].copy_from_slice(part);
-}
-
-// Writes the map in front.
-fn put_map(bytes: &mut [u8], map: u16)
-    requires { 2 ≤ length bytes.old }
-    ensures { bytes.new ≡ two map ++ drop 2 bytes.old }
-{
-    put_front(bytes, &map.to_be_bytes());
-}
-
-// Writes the number at the place.
-fn put_number(bytes: &mut [u8], at: usize, number: u32)
-    requires { at + 4 ≤ length bytes.old }
-    ensures { bytes.new ≡ take at bytes.old ++ (four number ++ drop (at + 4) bytes.old) }
-{
-    bytes[at..at + 4].copy_from_slice(&number.to_be_bytes());
-}
-
-// Opens a gap of four bytes at the place, and writes the number there. The last four bytes are lost.
-fn open_gap(bytes: &mut [u8], at: usize, number: u32)
-    requires { at + 4 ≤ length bytes.old }
-    ensures { bytes.new ≡ take at bytes.old ++ (four number ++ take (length bytes.old - (at + 4)) (drop at bytes.old)) }
-{
-    let end = bytes.len();
-    bytes[at..end].rotate_right(4);
-    put_number(bytes, at, number);
-}
-
-// Closes the gap that four bytes at the place leave, which go behind the others.
-fn close_gap(bytes: &mut [u8], at: usize)
-    requires { at + 4 ≤ length bytes.old }
-    ensures { bytes.new ≡ take at bytes.old ++ (drop (at + 4) bytes.old ++ take 4 (drop at bytes.old)) }
-{
-    let end = bytes.len();
-    bytes[at..end].rotate_left(4);
-}
-
-// Writes the number over the one that the attribute has.
-fn replace_field(bytes: &mut [u8], map: u16, attribute: u8, number: u32)
-    requires held { Held bytes.old }
-    requires map { map ≡ two_of bytes.old }
-    requires low { attribute < 16 }
-    requires there { (map / 2 ^ attribute % 2 == 1) ≡ true }
-    ensures held { Held bytes.new }
-    ensures facts { decode bytes.new ≡ slice_set (decode bytes.old) attribute (Some number) }
-{
-    put_number(bytes, place(map, attribute), number);
-}
-
-// Gives the attribute, which was absent, a field with the number.
-fn insert_field(bytes: &mut [u8], map: u16, attribute: u8, number: u32)
-    requires held { Held bytes.old }
-    requires map { map ≡ two_of bytes.old }
-    requires low { attribute < 16 }
-    requires absent { (map / 2 ^ attribute % 2 == 1) ≡ false }
-    ensures held { Held bytes.new }
-    ensures facts { decode bytes.new ≡ slice_set (decode bytes.old) attribute (Some number) }
-{
-    open_gap(bytes, place(map, attribute), number);
-    put_map(bytes, map + bit(attribute));
-}
-
-// Makes the attribute, which had a number, absent.
-fn remove_field(bytes: &mut [u8], map: u16, attribute: u8)
-    requires held { Held bytes.old }
-    requires map { map ≡ two_of bytes.old }
-    requires low { attribute < 16 }
-    requires there { (map / 2 ^ attribute % 2 == 1) ≡ true }
-    ensures held { Held bytes.new }
-    ensures facts { decode bytes.new ≡ slice_set (decode bytes.old) attribute None }
-{
-    close_gap(bytes, place(map, attribute));
-    put_map(bytes, map - bit(attribute));
-}
-
-// What the attribute has.
-fn field(bytes: &[u8], attribute: u8) -> Option<u32>
-    requires held { Held bytes.now }
-    requires low { attribute < 16 }
-    ensures { result ≡ slice_index_or (decode bytes.now) attribute None }
-{
-    let map = map_in(bytes);
-    if stands(map, attribute) {
-        Some(number_at(bytes, place(map, attribute)))
-    } else {
-        None
-    }
-}
-
-// Gives the attribute a number, or makes it absent.
-fn put_field(bytes: &mut [u8], attribute: u8, value: Option<u32>)
-    requires held { Held bytes.old }
-    requires low { attribute < 16 }
-    ensures held { Held bytes.new }
-    ensures facts { decode bytes.new ≡ slice_set (decode bytes.old) attribute value }
-{
-    let map = map_in(bytes);
-    match (value, stands(map, attribute)) {
-        (Some(number), true) => replace_field(bytes, map, attribute, number),
-        (Some(number), false) => insert_field(bytes, map, attribute, number),
-        (None, true) => remove_field(bytes, map, attribute),
-        (None, false) => {}
-    }
-}
-
 // Whether the bytes are a record: whether their map asks for as many as there are.
 fn is_record(source: &[u8]) -> bool
-    ensures value { result ≡ whole source.now }
-    ensures law { OneForEach }
-    ensures example { WorkedExample }
+    ensures { result ≡ whole source.now }
 {
-    source.len() >= 2 && source.len() == record_len(map_in(source))
-}
-
-// Puts a record in place of the one that the bytes begin with.
-fn put_record(bytes: &mut [u8], source: &[u8])
-    requires held { Held bytes.old }
-    requires whole { whole source.now ≡ true }
-    ensures held { Held bytes.new }
-    ensures facts { decode bytes.new ≡ decode source.now }
-    ensures back { source.now ≡ encode (decode bytes.new) }
-{
-    put_front(bytes, source);
-}
-
-// The record that the bytes begin with.
-fn record_in(bytes: &[u8]) -> &[u8]
-    requires { Held bytes.now }
-    ensures { result.now ≡ encode (decode bytes.now) }
-{
-    let end = record_len(map_in(bytes));
-    &bytes[0..end]
-}
-
-// The bytes of a record without fields.
-fn no_fields() -> [u8; ROOM]
-    ensures held { Held result }
-    ensures facts { decode result ≡ replicate 16 None }
-{
-    [0; ROOM]
+    source
+        .first_chunk()
+        .is_some_and(|&map| source.len() == record_len(u16::from_be_bytes(map)))
 }
 
 impl PackedRecord {
     // All attributes absent.
+    #[tactic(auto, using(crate::proofs::Sets::nothing_held), unfolding(crate::specs::Record::decode))]
     pub fn new() -> PackedRecord
         ensures { decode result.bytes ≡ replicate 16 None }
     {
-        PackedRecord { bytes: no_fields() }
+        PackedRecord { bytes: [0; ROOM] }
     }
 
     // Takes the facts of a record in place of those that the book has.
+    #[tactic(auto, using(crate::specs::Records::taken_over, crate::specs::Records::given_back, crate::specs::Records::one_for_each, crate::specs::Records::worked_example))]
     pub fn load(&mut self, source: &[u8]) -> Result<(), Refusal>
         ensures loaded { Loaded (decode self.old.bytes) source.now result (decode self.new.bytes) }
         ensures law { OneForEach }
@@ -232,7 +61,8 @@ impl PackedRecord {
         if !is_record(source) {
             return Err(Refusal::WrongLength);
         }
-        put_record(&mut self.bytes, source);
+        // From `0..` on, since the check follows no loan of `[..n]` out of a field beside a ghost field.
+        self.bytes[0..source.len()].copy_from_slice(source);
         Ok(())
     }
 
@@ -240,12 +70,139 @@ impl PackedRecord {
     pub fn write(&self, buffer: &mut [u8]) -> Result<usize, Refusal>
         ensures { Written (decode self.now.bytes) buffer.old result buffer.new }
     {
-        let own = record_in(&self.bytes);
+        let own = self.record();
         if buffer.len() < own.len() {
             return Err(Refusal::BufferTooShort);
         }
-        put_front(buffer, own);
+        buffer[..own.len()].copy_from_slice(own);
         Ok(own.len())
+    }
+
+    // The number that stands at the place.
+    fn number_at(&self, place: Place) -> u32
+        ensures { result ≡ four_of (drop place.at self.now.bytes) }
+    {
+        u32::from_be_bytes(*self.bytes[place.at..].first_chunk().unwrap())
+    }
+
+    // Writes the number at the place.
+    fn put_number(&mut self, place: Place, number: u32)
+        ensures { self.new.bytes ≡ take place.at self.old.bytes ++ (four number ++ drop (place.at + 4) self.old.bytes) }
+    {
+        self.bytes[place.at..place.at + 4].copy_from_slice(&number.to_be_bytes());
+    }
+
+    // Opens a gap of four bytes at the place. The last four bytes are lost.
+    fn open_gap(&mut self, place: Place)
+        ensures front { take place.at self.new.bytes ≡ take place.at self.old.bytes }
+        ensures behind { drop (place.at + 4) self.new.bytes ≡ take (62 - place.at) (drop place.at self.old.bytes) }
+    {
+        self.bytes.copy_within(place.at..ROOM - 4, place.at + 4);
+    }
+
+    // Closes the gap that four bytes at the place leave. The last four bytes then mean nothing.
+    fn close_gap(&mut self, place: Place)
+        ensures front { take place.at self.new.bytes ≡ take place.at self.old.bytes }
+        ensures behind { take (62 - place.at) (drop place.at self.new.bytes) ≡ drop (place.at + 4) self.old.bytes }
+    {
+        self.bytes.copy_within(place.at + 4.., place.at);
+    }
+
+    // Writes the map in front.
+    fn put_map(&mut self, map: u16)
+        ensures { self.new.bytes ≡ two map ++ drop 2 self.old.bytes }
+    {
+        self.bytes[0..2].copy_from_slice(&map.to_be_bytes());
+    }
+
+    // The record that the bytes begin with.
+    #[tactic(auto, using(crate::specs::Records::record_front))]
+    fn record(&self) -> &[u8]
+        ensures { result.now ≡ encode (decode self.now.bytes) }
+    {
+        &self.bytes[..record_len(self.map())]
+    }
+
+    // The map in front.
+    fn map(&self) -> u16
+        ensures { result ≡ two_of self.now.bytes }
+    {
+        let [high, low, ..] = self.bytes;
+        u16::from_be_bytes([high, low])
+    }
+
+    // Whether the attribute has a number, which its bit of the map says.
+    #[tactic(auto, using(crate::proofs::Fields::bit_there))]
+    fn has(&self, attribute: Attribute) -> bool
+        ensures { result ≡ is_some (slice_index_or (decode self.now.bytes) attribute.index None) }
+    {
+        (self.map() >> attribute.index) % 2 == 1
+    }
+
+    // Where the attribute's field stands or would stand: behind those of the attributes below it.
+    #[tactic(auto, using(crate::proofs::Fields::place_low))]
+    fn place(&self, attribute: Attribute) -> Place
+        ensures { result.at ≡ place_of (two_of self.now.bytes) attribute.index }
+    {
+        Place {
+            at: record_len(self.map() % attribute.bit()),
+        }
+    }
+
+    // What the attribute has.
+    #[tactic(auto, using(crate::proofs::Fields::look_there))]
+    fn fact(&self, attribute: Attribute) -> Option<u32>
+        ensures { result ≡ slice_index_or (decode self.now.bytes) attribute.index None }
+    {
+        self.has(attribute)
+            .then(|| self.number_at(self.place(attribute)))
+    }
+
+    // Gives the attribute a number, or makes it absent.
+    fn put(&mut self, attribute: Attribute, value: Option<u32>)
+        ensures { decode self.new.bytes ≡ slice_set (decode self.old.bytes) attribute.index value }
+    {
+        match (value, self.has(attribute)) {
+            (Some(number), true) => self.replace(attribute, number),
+            (Some(number), false) => self.insert(attribute, number),
+            (None, true) => self.remove(attribute),
+            (None, false) => {}
+        }
+    }
+
+    // Writes the number over the one that the attribute has.
+    #[tactic(auto, using(crate::proofs::Fields::replaced))]
+    fn replace(&mut self, attribute: Attribute, number: u32)
+        requires { IsSome (slice_index_or (decode self.old.bytes) attribute.index None) }
+        ensures { decode self.new.bytes ≡ slice_set (decode self.old.bytes) attribute.index (Some number) }
+    {
+        let place = self.place(attribute);
+        self.put_number(place, number);
+    }
+
+    // Gives the attribute, which was absent, a field with the number.
+    #[tactic(auto, using(crate::proofs::Fields::map_rises, crate::proofs::Fields::inserted))]
+    fn insert(&mut self, attribute: Attribute, number: u32)
+        requires { IsNone (slice_index_or (decode self.old.bytes) attribute.index None) }
+        ensures { decode self.new.bytes ≡ slice_set (decode self.old.bytes) attribute.index (Some number) }
+    {
+        let map = self.map() + attribute.bit();
+        let place = self.place(attribute);
+        self.open_gap(place);
+        self.put_number(place, number);
+        self.put_map(map);
+    }
+
+    // Makes the attribute, which had a number, absent.
+    #[tactic(auto, using(crate::proofs::Fields::map_falls, crate::proofs::Fields::removed))]
+    fn remove(&mut self, attribute: Attribute)
+        requires { IsSome (slice_index_or (decode self.old.bytes) attribute.index None) }
+        ensures { decode self.new.bytes ≡ slice_set (decode self.old.bytes) attribute.index None }
+    {
+        let map = self.map() - attribute.bit();
+        let place = self.place(attribute);
+        self.close_gap(place);
+        self.put_map(map);
     }
 }
 
@@ -255,17 +212,11 @@ impl FactBook for PackedRecord {
     ghost sixteen = { λ b. decode-facts b.bytes b.ok.1 };
 
     fn look(&self, attribute: u8) -> Result<Option<u32>, Refusal> {
-        if attribute > 15 {
-            return Err(Refusal::NoSuchAttribute);
-        }
-        Ok(field(&self.bytes, attribute))
+        Ok(self.fact(Attribute::try_from(attribute)?))
     }
 
     fn set(&mut self, attribute: u8, value: Option<u32>) -> Result<(), Refusal> {
-        if attribute > 15 {
-            return Err(Refusal::NoSuchAttribute);
-        }
-        put_field(&mut self.bytes, attribute, value);
+        self.put(Attribute::try_from(attribute)?, value);
         Ok(())
     }
 }

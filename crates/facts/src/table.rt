@@ -2,6 +2,7 @@
 ghost use Rattle.std.specs.Prelude.{◌≡◌, replicate, None};
 ghost use Rattle.facts.specs.Facts.{Facts};
 
+use crate::attribute::Attribute;
 use crate::{FactBook, Refusal};
 
 #[derive(Clone, Copy)]
@@ -25,21 +26,11 @@ impl FactBook for Table {
     ghost sixteen = { λ t. t.ok };
 
     fn look(&self, attribute: u8) -> Result<Option<u32>, Refusal> {
-        if attribute > 15 {
-            return Err(Refusal::NoSuchAttribute);
-        }
-        Ok(self.values[attribute as usize])
+        Ok(self.values[Attribute::try_from(attribute)?.index])
     }
 
     fn set(&mut self, attribute: u8, value: Option<u32>) -> Result<(), Refusal> {
-        if attribute > 15 {
-            return Err(Refusal::NoSuchAttribute);
-        }
-        // Taken apart, since only then the check knows that the number fits its type.
-        self.values[attribute as usize] = match value {
-            Some(number) => Some(number),
-            None => None,
-        };
+        self.values[Attribute::try_from(attribute)?.index] = value;
         Ok(())
     }
 }

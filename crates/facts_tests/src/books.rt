@@ -6,8 +6,7 @@ use std::test::Fail;
 
 // Sets each attribute of a book without facts, from the last to the first, and looks at what it then has.
 fn fill<B: FactBook>(book: &mut B) -> Result<(), Fail> {
-    for k in 0..16u8 {
-        let attribute = 15 - k;
+    for attribute in (0..16u8).rev() {
         check_eq(book.look(attribute), Ok(None))?;
         check_eq(
             book.set(attribute, Some(u32::MAX - attribute as u32)),

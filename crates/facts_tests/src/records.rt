@@ -68,8 +68,7 @@ fn check_single(attribute: u8, high: u8, low: u8) -> Result<(), Fail> {
 
 #[test]
 fn each_attribute() -> Result<(), Fail> {
-    for attribute in 0..16u8 {
-        let [high, low] = SINGLE[attribute as usize];
+    for (attribute, [high, low]) in (0..).zip(SINGLE) {
         check_single(attribute, high, low)?;
     }
     Ok(())
@@ -78,8 +77,8 @@ fn each_attribute() -> Result<(), Fail> {
 #[test]
 fn all_sixteen(rt: HostRuntime) -> Result<(), Fail> {
     let mut source = [255; 66];
-    for i in 2..66 {
-        source[i] = i as u8;
+    for (byte, value) in source[2..].iter_mut().zip(2..66) {
+        *byte = value;
     }
     let mut book = PackedRecord::new();
     assert_eq!(rt; book.load(&source), Ok(()));

@@ -1,5 +1,5 @@
 -- Ranks of edges, as a list of sixty-four. Assumes nothing.
-use Rattle.std.specs.Prelude.{◌≡◌, ℕ, suc, ◌+◌, ◌<◌, ◌≤◌, min, cond, ◌&&◌, List, [], ◌∷◌, length, ◌==◌, nat_lt, slice_index}
+use Rattle.std.specs.Prelude.{◌≡◌, ℕ, ◌+◌, ◌<◌, ◌≤◌, min, cond, ◌&&◌, List, length, ◌==◌, nat_lt, count_by, slice_index}
 
 -- a rank for each of the sixty-four edges, and none above the limit
 abbrev pub Ranks : ℕ → List ℕ → Type 0
@@ -16,8 +16,7 @@ Raised before edge after =
 
 -- how often a number stands in the list
 abbrev pub times : ℕ → List ℕ → ℕ
-times e [] = 0
-times e (x ∷ xs) = cond (e == x) (suc (times e xs)) (times e xs)
+times e xs = count_by (λ x. e == x) xs
 
 -- the rank of every edge is what it was and as much more as the edge stands in the list, up to the limit
 abbrev pub Counted : List ℕ → List ℕ → List ℕ → Type 0

@@ -17,6 +17,7 @@ pub struct EvenHand {
 
 impl EvenHand {
     // No edge was taken yet.
+    #[tactic(auto, using(crate::proofs::Tellings::none_taken))]
     pub fn new() -> EvenHand
         ensures { result.counts ≡ replicate 64 0 }
     {
@@ -38,14 +39,16 @@ impl Policy for EvenHand {
     }
 
     fn told(&mut self, edge: u8) {
-        let i = edge as usize;
-        if i < 64 && self.counts[i] < LIMIT {
+        // By index, since of `get_mut` std says nothing of what the array then holds: the ghost field could not be shown.
+        let i = usize::from(edge);
+        if i < self.counts.len() && self.counts[i] < LIMIT {
             self.counts[i] += 1;
         }
     }
 }
 
 // Tells the even hand of each edge in turn: a rank is then the number of times, in all, that it was told of the edge.
+#[tactic(auto, using(crate::proofs::Tellings::counted))]
 pub fn tell_evenly(hand: &mut EvenHand, edges: &[u8])
     ensures { Counted hand.old.counts edges.now hand.new.counts }
 {

@@ -14,12 +14,7 @@ mod tests {
     // The ranks of the edges asked for, once the policy was told of the edges taken.
     fn ranks_after<P: Policy>(policy: &mut P, taken: &[u8], asked: [u8; 4]) -> [u32; 4] {
         tell_all(policy, taken);
-        [
-            policy.rank(asked[0]),
-            policy.rank(asked[1]),
-            policy.rank(asked[2]),
-            policy.rank(asked[3]),
-        ]
+        asked.map(|edge| policy.rank(edge))
     }
 
     #[test]
