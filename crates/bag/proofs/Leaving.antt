@@ -1,23 +1,16 @@
 -- The order of leaving is kept by putting and taking. Assumes nothing.
-use Rattle.std.proofs.Common.{◌≡◌, ℕ, ◌+◌, Bool, true, false, cond, not, ◌&&◌, List, [], ◌∷◌, ◌++◌, length, Some, None, count_by, filter, Option, sym, refl, ap, ◌∙◌, subst, ⊎_elim, arith}
+use Rattle.std.proofs.Common.{◌≡◌, ◌+◌, Bool, true, false, cond, ◌&&◌, List, [], ◌∷◌, ◌++◌, length, Some, None, count_by, filter, Option, sym, refl, ap, ◌∙◌, subst, ⊎_elim, arith}
 use Rattle.std.specs.List.{AllByRecursion}
 use Rattle.std.proofs.lemmas.List.{append-nil}
-use Rattle.std.proofs.lemmas.List.Elements.{filter-append}
+use Rattle.std.proofs.lemmas.List.Elements.{filter-append, filter_agree}
 use Rattle.std.proofs.ByRecursion.{All-weaker, All-append, all_kept_by}
 use Rattle.std.proofs.lemmas.List.Sums.{sum_by-cons, sum_by-append, sum_by_push}
-use Rattle.std.proofs.lemmas.Bool.{and_parts, and_from, and_left, and_right, not_from_false, not_from_true, not-true, both_ways, cases_Bool, cond-true, cond-false}
+use Rattle.std.proofs.lemmas.Bool.{and_parts, and_left, and_right, cases_Bool, cond-true}
 use Rattle.bag.specs.Records.{put_in, head_of, tail_of, first_with, without_first, none_before, in_order}
 use Rattle.bag.specs.Leaving.{same_rank, Arranged, Leaves, Taken, any, count_if, Lowest, FirstLaw, PutLaw, TakeLaw}
+use Rattle.std.specs.List.{position}
+pub use Rattle.bag.proofs.Records.{find_none, find_found, without_none, without_found}
 use Rattle.bag.proofs.Records.{order_put_in, order_without, put_in_place}
-
-bool_same : (a b : Bool) → (a ≡ false → b ≡ false) → (b ≡ false → a ≡ false) → a ≡ b
-bool_same true true f g = refl
-bool_same true false f g = g refl
-bool_same false b f g = sym (f refl)
-
-not_counted : (b : Bool) → cond {A = ℕ} b 1 0 ≡ 0 → b ≡ false
-not_counted true h = absurd (omega arith)
-not_counted false h = refl
 
 module _ {R : Type 0} where
   all_both : (P Q S : R → Type 0) → ((x : R) → P x → Q x → S x) → (xs : List R) → AllByRecursion P xs → AllByRecursion Q xs → AllByRecursion S xs
@@ -32,31 +25,21 @@ module _ {R : Type 0} where
   all_right P [] ys a = a
   all_right P (x ∷ xs) ys a = all_right P xs ys a.1
 
-  kept_same : (p q : R → Bool) → ((x : R) → p x ≡ q x) → (xs : List R) → filter p xs ≡ filter q xs
-  kept_same p q same [] = refl
-  kept_same p q same (x ∷ xs) =
-      ap (λ l. cond (p x) (x ∷ l) l) (kept_same p q same xs) ∙ ap (λ b. cond b (x ∷ filter q xs) (filter q xs)) (same x)
-
   module _ (p : R → Bool) where
     kept-none : (xs : List R) → AllByRecursion (λ x. p x ≡ false) xs → filter p xs ≡ []
     kept-none [] a = refl
-    kept-none (x ∷ xs) a = cond-false (p x) _ _ a.0 ∙ kept-none xs a.1
+    kept-none (x ∷ xs) a = grind (arith, kept-none xs)
 
     kept_skip : (us : List R) (x : R) (vs : List R) → p x ≡ false → filter p (us ++ (x ∷ vs)) ≡ filter p (us ++ vs)
-    kept_skip us x vs e =
-        filter-append p us (x ∷ vs) ∙ ap (λ l. filter p us ++ l) (cond-false (p x) _ _ e) ∙ sym (filter-append p us vs)
+    kept_skip us x vs e = grind (arith, filter-append p us (x ∷ vs), filter-append p us vs)
 
     kept_there : (us : List R) (x : R) (vs : List R) → p x ≡ true → filter p (us ++ (x ∷ vs)) ≡ filter p us ++ (x ∷ filter p vs)
-    kept_there us x vs e = filter-append p us (x ∷ vs) ∙ ap (λ l. filter p us ++ l) (cond-true (p x) _ _ e)
+    kept_there us x vs e = grind (arith, filter-append p us (x ∷ vs))
 
     -- what holds of all that a filter keeps
     all_from_kept : (Q : R → Type 0) (xs : List R) → AllByRecursion Q (filter p xs) → AllByRecursion (λ x. p x ≡ true → Q x) xs
     all_from_kept Q [] a = tt
-    all_from_kept Q (x ∷ xs) a =
-        ⊎_elim
-        (λ e. let b : AllByRecursion Q (x ∷ filter p xs) = subst (AllByRecursion Q) (cond-true (p x) _ _ e) a in (λ _. b.0, all_from_kept Q xs b.1))
-        (λ e. let b : AllByRecursion Q (filter p xs) = subst (AllByRecursion Q) (cond-false (p x) _ _ e) a in (λ t. absurd (both_ways (p x) e t), all_from_kept Q xs b))
-        (cases_Bool (p x))
+    all_from_kept Q (x ∷ xs) a = grind (arith, all_from_kept Q xs)
 
     pub count_cons : (x : R) (xs : List R) → count_by p (x ∷ xs) ≡ cond (p x) 1 0 + count_by p xs
     count_cons x xs = sum_by-cons (λ y. cond (p y) 1 0) x xs
@@ -67,16 +50,11 @@ module _ {R : Type 0} where
 
     none_from_count : (xs : List R) → count_by p xs ≡ 0 → AllByRecursion (λ x. p x ≡ false) xs
     none_from_count [] h = tt
-    none_from_count (x ∷ xs) h =
-        let c = count_cons x xs in
-        let zero : cond {A = ℕ} (p x) 1 0 ≡ 0 = omega arith in
-        (not_counted (p x) zero, none_from_count xs (omega arith))
+    none_from_count (x ∷ xs) h = grind (arith, count_cons x xs, none_from_count xs)
 
     count_from_none : (xs : List R) → AllByRecursion (λ x. p x ≡ false) xs → count_by p xs ≡ 0
     count_from_none [] a = refl
-    count_from_none (x ∷ xs) a =
-        let rest = count_from_none xs a.1 in
-        count_cons x xs ∙ rw (a.0, rest)
+    count_from_none (x ∷ xs) a = grind (arith, count_cons x xs, count_from_none xs)
 
   count-all : (xs : List R) → count_by any xs ≡ length xs
   count-all [] = refl
@@ -109,20 +87,17 @@ module _ {R : Type 0} (p : R → Bool) where
   }
 
   cut : (xs us : List R) (x : R) (vs : List R) → filter p xs ≡ us ++ (x ∷ vs) → Cut p xs us x vs
-  cut [] [] x vs e = let never : ◌≡◌ {A = ℕ} 0 1 = cc in absurd (omega arith)
-  cut [] (a ∷ us) x vs e = let never : ◌≡◌ {A = ℕ} 0 1 = cc in absurd (omega arith)
+  cut [] [] x vs e = absurd (grind arith)
+  cut [] (a ∷ us) x vs e = absurd (grind arith)
   cut (y ∷ ys) [] x vs e =
       ⊎_elim
-      (λ t. let e' : y ∷ filter p ys ≡ x ∷ vs = sym (cond-true (p y) _ _ t) ∙ e in
-      record { front = []; back = ys; is = (let same : y ≡ x = cc in ap (λ z. z ∷ ys) same); front_kept = refl; back_kept = cc })
-      (λ t. cut-more y ys [] x vs [] (ap (λ l. l ++ []) (cond-false (p y) _ _ t)) (cut ys [] x vs (sym (cond-false (p y) _ _ t) ∙ e)))
+      (λ t. let e' = rw t at e in record { front = []; back = ys; is = grind arith; front_kept = refl; back_kept = cc })
+      (λ t. cut-more y ys [] x vs [] (rw t) (cut ys [] x vs (rw t at e)))
       (cases_Bool (p y))
   cut (y ∷ ys) (a ∷ us) x vs e =
       ⊎_elim
-      (λ t. let e' : y ∷ filter p ys ≡ a ∷ (us ++ (x ∷ vs)) = sym (cond-true (p y) _ _ t) ∙ e in
-      let same : y ≡ a = cc in
-      cut-more y ys us x vs (a ∷ us) (ap (λ l. l ++ us) (cond-true (p y) _ _ t) ∙ ap (λ z. z ∷ us) same) (cut ys us x vs (cc)))
-      (λ t. cut-more y ys (a ∷ us) x vs (a ∷ us) (ap (λ l. l ++ (a ∷ us)) (cond-false (p y) _ _ t)) (cut ys (a ∷ us) x vs (sym (cond-false (p y) _ _ t) ∙ e)))
+      (λ t. let e' = rw t at e in cut-more y ys us x vs (a ∷ us) (grind arith) (cut ys us x vs (cc)))
+      (λ t. cut-more y ys (a ∷ us) x vs (a ∷ us) (rw t) (cut ys (a ∷ us) x vs (rw t at e)))
       (cases_Bool (p y))
 
 -- a list at the first record that passes: those in front of it fail
@@ -153,12 +128,10 @@ module _ {R : Type 0} (p : R → Bool) where
   first_of : (xs : List R) → FirstOf p xs (first_with p xs) (without_first p xs)
   first_of [] = (tt, refl)
   first_of (x ∷ xs) =
-      let goal : Bool → Type 0 = λ v. FirstOf p (x ∷ xs) (cond v (Some x) (first_with p xs)) (cond v xs (x ∷ without_first p xs)) in
-      let go : (b : Bool) → p x ≡ b → goal b = λ b. elim b as (λ v. p x ≡ v → goal v) [
-        | true ↦ λ e. record { front = []; back = xs; were = refl; stay = refl; fail = tt; passes = e }
-        | false ↦ λ e. first_more x xs (first_with p xs) (without_first p xs) e (first_of xs)
-      ] in
-      go (p x) refl
+      ⊎_elim
+      (λ e. rw (e) (record { front = []; back = xs; were = refl; stay = refl; fail = tt; passes = e }))
+      (λ e. rw (e) (first_more x xs (first_with p xs) (without_first p xs) e (first_of xs)))
+      (cases_Bool (p x))
 
   -- one less of what passes a test, if the record that leaves passes it
   count-first : (q : R → Bool) (xs : List R) (r : Option R) (ys : List R) → FirstOf p xs r ys → count_by q xs ≡ count_by q ys + count_if q r
@@ -168,26 +141,18 @@ module _ {R : Type 0} (p : R → Bool) where
 
 module _ {R : Type 0} (before : R → R → Bool) (asymmetric : (x y : R) → before x y ≡ true → before y x ≡ false) (transitive : (x y z : R) → before y x ≡ false → before z y ≡ false → before z x ≡ false) where
   itself : (x : R) → before x x ≡ false
-  itself x = ⊎_elim (asymmetric x x) (λ e. e) (cases_Bool (before x x))
+  itself x = grind (arith, asymmetric x x)
 
   own_rank : (x : R) → same_rank before x x ≡ true
-  own_rank x = and_from _ _ (not_from_false _ (itself x)) (not_from_false _ (itself x))
+  own_rank x = grind (arith, itself x)
 
   -- records of one rank have the same equals
   same-equals : (r x : R) → same_rank before r x ≡ true → (y : R) → same_rank before r y ≡ same_rank before x y
-  same-equals r x e y =
-      let parts = and_parts (not (before r x)) (not (before x r)) e in
-      let rx = not-true _ parts.0 in
-      let xr = not-true _ parts.1 in
-      let behind : before r y ≡ before x y = bool_same _ _ (λ h. transitive y r x h xr) (λ h. transitive y x r h rx) in
-      let ahead : before y r ≡ before y x = bool_same _ _ (λ h. transitive x r y rx h) (λ h. transitive r x y xr h) in
-      ap (λ b. not b && not (before y r)) behind ∙ ap (λ b. not (before x y) && not b) ahead
+  same-equals r x e y = grind (arith, transitive y r x, transitive y x r, transitive x r y, transitive r x y)
 
   none-all : (x : R) (xs : List R) → none_before before x xs ≡ true → AllByRecursion (λ y. before y x ≡ false) xs
   none-all x [] a = tt
-  none-all x (y ∷ ys) a =
-      let parts = and_parts (not (before y x)) (none_before before x ys) a in
-      (not-true _ parts.0, none-all x ys parts.1)
+  none-all x (y ∷ ys) a = grind (arith, none-all x ys)
 
   -- in a list in order no record ranks before one that stands in front of it
   none_behind : (us : List R) (x : R) (vs : List R) → in_order before (us ++ (x ∷ vs)) ≡ true → AllByRecursion (λ y. before y x ≡ false) vs
@@ -197,16 +162,11 @@ module _ {R : Type 0} (before : R → R → Bool) (asymmetric : (x y : R) → be
   module _ (x : R) where
     count_put : (q : R → Bool) (xs : List R) → count_by q (put_in before x xs) ≡ count_by q xs + cond (q x) 1 0
     count_put q [] = omega (arith, count_cons q x [])
-    count_put q (y ∷ ys) =
-        let here = count_cons q y ys in
-        let rest = count_put q ys in
-        elim (before x y) as (λ v. count_by q (cond v (x ∷ (y ∷ ys)) (y ∷ put_in before x ys)) ≡ count_by q (y ∷ ys) + cond (q x) 1 0)
-        [ true ↦ omega (arith, count_cons q x (y ∷ ys)) | false ↦ omega (arith, count_cons q y (put_in before x ys)) ]
+    count_put q (y ∷ ys) = grind (arith, count_put q ys, count_cons q y ys, count_cons q x (y ∷ ys), count_cons q y (put_in before x ys))
 
     -- where x ranks before y, and none of zs before y, no record of zs has the rank of x
     none_equal : (y : R) (zs : List R) → before x y ≡ true → AllByRecursion (λ z. before z y ≡ false) zs → AllByRecursion (λ z. same_rank before x z ≡ false) zs
-    none_equal y zs t a = All-weaker (λ z. before z y ≡ false) (λ z. same_rank before x z ≡ false) (λ z h.
-        and_left _ _ (not_from_true _ (⊎_elim (λ e. e) (λ e. absurd (both_ways (before x y) (transitive y z x h e) t)) (cases_Bool (before x z))))) zs a
+    none_equal y zs t a = All-weaker (λ z. before z y ≡ false) (λ z. same_rank before x z ≡ false) (λ z h. grind (arith, transitive y z x)) zs a
 
     -- of the records of one rank x comes last
     equals_put : (r : R) (xs : List R) → in_order before xs ≡ true
@@ -215,20 +175,10 @@ module _ {R : Type 0} (before : R → R → Bool) (asymmetric : (x y : R) → be
     equals_put r (y ∷ ys) o =
         let level = same_rank before r in
         let parts = and_parts (none_before before y ys) (in_order before ys) o in
-        let goal : Bool → Type 0 = λ v. filter level (cond v (x ∷ (y ∷ ys)) (y ∷ put_in before x ys)) ≡ filter level (y ∷ ys) ++ filter level (x ∷ []) in
-        let go : (b : Bool) → before x y ≡ b → goal b = λ b. elim b as (λ v. before x y ≡ v → goal v) [
-          | true ↦ λ t. ⊎_elim
-              (λ e. let none : filter level (y ∷ ys) ≡ [] =
-              kept_same level (same_rank before x) (same-equals r x e) (y ∷ ys) ∙ kept-none (same_rank before x) (y ∷ ys) (none_equal y (y ∷ ys) t (itself y, none-all y ys parts.0)) in
-              filter-append level (x ∷ []) (y ∷ ys) ∙ ap (λ l. filter level (x ∷ []) ++ l) none ∙ append-nil (filter level (x ∷ [])) ∙ ap (λ l. l ++ filter level (x ∷ [])) (sym none))
-              (λ e. let gone : filter level (x ∷ []) ≡ [] = cond-false (level x) _ _ e in
-              cond-false (level x) _ _ e ∙ sym (append-nil (filter level (y ∷ ys))) ∙ ap (λ l. filter level (y ∷ ys) ++ l) (sym gone))
-              (cases_Bool (level x))
-          | false ↦ λ t. let rest = equals_put r ys parts.1 in
-              elim (level y) as (λ v. cond v (y ∷ filter level (put_in before x ys)) (filter level (put_in before x ys)) ≡ cond v (y ∷ filter level ys) (filter level ys) ++ filter level (x ∷ []))
-              [ true ↦ ap (λ l. y ∷ l) rest | false ↦ rest ]
-        ] in
-        go (before x y) refl
+        -- where x stands in front of y, none that follows has its rank
+        let alone = λ (t : before x y ≡ true) (e : level x ≡ true). filter_agree level (same_rank before x) (same-equals r x e) (y ∷ ys)
+        ∙ kept-none (same_rank before x) (y ∷ ys) (none_equal y (y ∷ ys) t (itself y, none-all y ys parts.0)) in
+        grind (arith, alone, equals_put r ys, append-nil)
 
     arranged_put : (xs puts : List R) → Arranged before puts xs → Arranged before (puts ++ (x ∷ [])) (put_in before x xs)
     arranged_put xs puts a = record {
@@ -241,12 +191,7 @@ module _ {R : Type 0} (before : R → R → Bool) (asymmetric : (x y : R) → be
     first_put : (p : R → Bool) (xs : List R) → p x ≡ true → AllByRecursion (λ y. p y ≡ false) xs
         → (first_with p (put_in before x xs) ≡ Some x) × (without_first p (put_in before x xs) ≡ xs)
     first_put p [] t a = (cond-true (p x) _ _ t, cond-true (p x) _ _ t)
-    first_put p (y ∷ ys) t a =
-        let rest = first_put p ys t a.1 in
-        elim (before x y) as (λ v. (first_with p (cond v (x ∷ (y ∷ ys)) (y ∷ put_in before x ys)) ≡ Some x) × (without_first p (cond v (x ∷ (y ∷ ys)) (y ∷ put_in before x ys)) ≡ y ∷ ys)) [
-          | true ↦ (cond-true (p x) _ _ t, cond-true (p x) _ _ t)
-          | false ↦ (cond-false (p y) _ _ a.0 ∙ rest.0, cond-false (p y) _ _ a.0 ∙ ap (λ l. y ∷ l) rest.1)
-        ]
+    first_put p (y ∷ ys) t a = grind (arith, first_put p ys t)
 
     put_any : (xs : List R) → PutLaw before x xs (put_in before x xs)
     put_any xs = record {
@@ -261,64 +206,57 @@ module _ {R : Type 0} (before : R → R → Bool) (asymmetric : (x y : R) → be
     put_law xs ys e = subst (PutLaw before x xs) (sym e) (put_any xs)
 
   module _ (p : R → Bool) where
-    -- the test of `higher` and `no_lower` for the records of the list
-    spared : (x y : R) → (p y ≡ false) → (p y && before y x) ≡ false
-    spared x y h = and_left _ _ h
-
-    not_lower : (x y : R) → (p y && before y x) ≡ false → p y ≡ true → before y x ≡ false
-    not_lower x y h t = ap (λ b. b && before y x) (sym t) ∙ h
-
     -- not lower, and of another rank
     is-higher : (x y : R) → (p y && before y x) ≡ false → (same_rank before x y ≡ true → p y ≡ false) → p y ≡ true → before x y ≡ true
-    is-higher x y h other t =
-        ⊎_elim (λ e. e)
-        (λ e. absurd (both_ways (p y) (other (and_from _ _ (not_from_false _ e) (not_from_false _ (not_lower x y h t)))) t))
-        (cases_Bool (before x y))
+    is-higher x y h other t = grind arith
 
     module _ (xs puts ys : List R) (x : R) (a : Arranged before puts xs) (f : Parted p xs x ys) where
       abbrev level : R → Bool
       level = same_rank before x
+
+      -- it passes, and is lower than x
+      abbrev lower : R → Bool
+      lower y = p y && before y x
 
       -- where x stands in the order of putting
       at_put : Cut level puts (filter level f.front) x (filter level f.back)
       at_put = cut level puts _ x _ (sym (a.equals x) ∙ ap (filter level) f.were ∙ kept_there level f.front x f.back (own_rank x))
 
       -- of the records that pass none is lower
-      passing : AllByRecursion (λ y. (p y && before y x) ≡ false) puts
+      passing : AllByRecursion (λ y. lower y ≡ false) puts
       passing =
           let o : in_order before (f.front ++ (x ∷ f.back)) ≡ true = subst (λ l. in_order before l ≡ true) f.were a.ordered in
-          let behind = All-weaker (λ y. before y x ≡ false) (λ y. (p y && before y x) ≡ false) (λ y h. and_right _ _ h) f.back (none_behind f.front x f.back o) in
-          let front = All-weaker (λ y. p y ≡ false) (λ y. (p y && before y x) ≡ false) (spared x) f.front f.fail in
-          let whole = All-append (λ y. (p y && before y x) ≡ false) f.front (x ∷ f.back) front (and_right _ _ (itself x), behind) in
-          all_moved xs puts a.records (λ y. p y && before y x) (subst (AllByRecursion (λ y. (p y && before y x) ≡ false)) (sym f.were) whole)
+          let behind = All-weaker (λ y. before y x ≡ false) (λ y. lower y ≡ false) (λ y h. and_right _ _ h) f.back (none_behind f.front x f.back o) in
+          let front = All-weaker (λ y. p y ≡ false) (λ y. lower y ≡ false) (λ y h. and_left _ _ h) f.front f.fail in
+          let whole = All-append (λ y. lower y ≡ false) f.front (x ∷ f.back) front (and_right _ _ (itself x), behind) in
+          all_moved xs puts a.records lower (subst (AllByRecursion (λ y. lower y ≡ false)) (sym f.were) whole)
 
       leaves : Leaves before p puts x (at_put.front ++ at_put.back)
       leaves =
-          let there = subst (AllByRecursion (λ y. (p y && before y x) ≡ false)) at_put.is passing in
+          let there = subst (AllByRecursion (λ y. lower y ≡ false)) at_put.is passing in
           let fail = subst (AllByRecursion (λ y. p y ≡ false)) (sym at_put.front_kept) (all_kept_by level (λ y. p y ≡ false) f.front f.fail) in
-          let behind = all_right (λ y. (p y && before y x) ≡ false) at_put.front (x ∷ at_put.back) there in
+          let behind = all_right (λ y. lower y ≡ false) at_put.front (x ∷ at_put.back) there in
           record {
             earlier = at_put.front;
             later = at_put.back;
             were = at_put.is;
             stay = refl;
             passes = f.passes;
-            higher = all_both (λ y. (p y && before y x) ≡ false) (λ y. level y ≡ true → p y ≡ false) (λ y. p y ≡ true → before x y ≡ true) (is-higher x)
-                at_put.front (all_left (λ y. (p y && before y x) ≡ false) at_put.front (x ∷ at_put.back) there) (all_from_kept level (λ y. p y ≡ false) at_put.front fail);
-            no_lower = All-weaker (λ y. (p y && before y x) ≡ false) (λ y. p y ≡ true → before y x ≡ false) (not_lower x) at_put.back behind.1;
+            higher = all_both (λ y. lower y ≡ false) (λ y. level y ≡ true → p y ≡ false) (λ y. p y ≡ true → before x y ≡ true) (is-higher x)
+                at_put.front (all_left (λ y. lower y ≡ false) at_put.front (x ∷ at_put.back) there) (all_from_kept level (λ y. p y ≡ false) at_put.front fail);
+            no_lower = All-weaker (λ y. lower y ≡ false) (λ y. p y ≡ true → before y x ≡ false) (λ y h t. grind arith) at_put.back behind.1;
           }
 
       equals-left : (r : R) → filter (same_rank before r) (f.front ++ f.back) ≡ filter (same_rank before r) (at_put.front ++ at_put.back)
       equals-left r =
           let of-r = same_rank before r in
-          ⊎_elim
-          (λ e. let same = kept_same of-r level (same-equals r x e) in
-          same (f.front ++ f.back) ∙ filter-append level f.front f.back
-          ∙ ap (λ l. l ++ filter level f.back) (sym at_put.front_kept) ∙ ap (λ l. filter level at_put.front ++ l) (sym at_put.back_kept)
-          ∙ sym (filter-append level at_put.front at_put.back) ∙ sym (same (at_put.front ++ at_put.back)))
-          (λ e. sym (kept_skip of-r f.front x f.back e) ∙ ap (filter of-r) (sym f.were) ∙ a.equals r
-          ∙ ap (filter of-r) at_put.is ∙ kept_skip of-r at_put.front x at_put.back e)
-          (cases_Bool (of-r x))
+          let kept_as = λ (e : of-r x ≡ true). filter_agree of-r level (same-equals r x e) (f.front ++ f.back) in
+          let put_as = λ (e : of-r x ≡ true). filter_agree of-r level (same-equals r x e) (at_put.front ++ at_put.back) in
+          let kept = filter-append level f.front f.back in
+          let put = filter-append level at_put.front at_put.back in
+          let left = kept_skip of-r f.front x f.back in
+          let right = kept_skip of-r at_put.front x at_put.back in
+          grind (arith, f.were, a.equals r, at_put.is, at_put.front_kept, at_put.back_kept, kept_as, put_as)
 
       arranged-left : in_order before ys ≡ true → Arranged before (at_put.front ++ at_put.back) ys
       arranged-left o = record {
@@ -346,23 +284,25 @@ module _ {R : Type 0} (before : R → R → Bool) (asymmetric : (x y : R) → be
     pub take_law : (xs : List R) (r : Option R) (ys : List R) → r ≡ first_with p xs → ys ≡ without_first p xs → TakeLaw before p xs r ys
     take_law xs r ys e h = subst (λ s. TakeLaw before p xs s ys) (sym e) (subst (TakeLaw before p xs (first_with p xs)) (sym h) (take-any xs))
 
-  first_any : (xs : List R) → head_of xs ≡ first_with any xs
-  first_any [] = refl
-  first_any (x ∷ xs) = refl
-
-  without-any : (xs : List R) → tail_of xs ≡ without_first any xs
-  without-any [] = refl
-  without-any (x ∷ xs) = refl
+  first_any : (xs : List R) → (head_of xs ≡ first_with any xs) × (tail_of xs ≡ without_first any xs)
+  first_any [] = (refl, refl)
+  first_any (x ∷ xs) = (refl, refl)
 
   pub take_first_law : (xs : List R) (r : Option R) (ys : List R) → r ≡ head_of xs → ys ≡ tail_of xs → TakeLaw before any xs r ys
-  take_first_law xs r ys e h = take_law any xs r ys (e ∙ first_any xs) (h ∙ without-any xs)
+  take_first_law xs r ys e h = take_law any xs r ys (e ∙ (first_any xs).0) (h ∙ (first_any xs).1)
+
+  pub tagged_none : (p : R → Bool) (xs : List R) → position p xs ≡ None → TakeLaw before p xs None xs
+  tagged_none p xs h = take_law p xs None xs (sym (find_none p xs h)) (sym (without_none p xs h))
 
   lowest : (xs : List R) → in_order before xs ≡ true → Lowest before xs (head_of xs)
   lowest [] o = refl
-  lowest (x ∷ xs) o = and_from _ _ (not_from_false _ (itself x)) (and_parts (none_before before x xs) (in_order before xs) o).0
+  lowest (x ∷ xs) o = grind (arith, itself x)
 
   pub first_law : (xs : List R) (r : Option R) → r ≡ head_of xs → FirstLaw before xs r
   first_law xs r e = record {
     lowest = λ o. subst (Lowest before xs) (sym e) (lowest xs o);
     earliest = λ puts a. let t = (take_first_law xs r (tail_of xs) e refl).arranged puts a in (t.0, t.1);
   }
+
+-- what a taking by a tag comes to
+pub ruleset takes_tagged = (find_none, without_none, find_found, without_found, tagged_none)

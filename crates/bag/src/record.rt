@@ -1,7 +1,8 @@
 // What a bag asks of its records: a rank to leave by, and, for counting and taking by it, a tag.
 ghost use Rattle.std.specs.Prelude.{◌≡◌, Bool, true, false};
 
-// A record with a rank. Only the order of the ranks is owed: a total one, in which two records may have the same rank.
+// A record with a rank. Only the order of the ranks is owed: a total one, in which two records may have the same rank. So it is no `Ord`,
+// by which such records would be equal.
 pub trait Ranked: Copy {
     // Whether the first record has a lower rank than the second.
     ghost before: { Self → Self → Bool };

@@ -2,19 +2,17 @@
 ghost use Rattle.std.specs.Prelude.{◌≡◌};
 ghost use Rattle.bag.specs.Refusals.{number_of};
 
-#[derive(Clone, Copy)]
+// Each refusal has the number under which a caller is told.
+#[derive(Clone, Copy, Debug, PartialEq, Eq)]
 pub enum Refusal {
     // A record was put, and no slot is free.
-    Full,
+    Full = 47,
 }
 
 impl Refusal {
-    // The number under which a caller is told.
     pub fn number(self) -> u8
         ensures { result ≡ number_of self }
     {
-        match self {
-            Refusal::Full => 47,
-        }
+        self as u8
     }
 }

@@ -1,5 +1,7 @@
 -- Sequences of calls on a bag.
-use Rattle.std.specs.Prelude.{◌≡◌, ℕ, ◌+◌, ◌<◌, ◌≤◌, Bool, List, [], ◌∷◌, ◌++◌, length, Some, None, Ok, Err, count_by, Option}
+use Rattle.std.specs.Prelude.{◌≡◌, ℕ, ◌+◌, ◌<◌, ◌≤◌, Bool, List, [], ◌∷◌, ◌++◌, length, Ok, Err, count_by}
+use Rattle.std.specs.List.{flat_map}
+use Rattle.std.specs.Option.{option_to_list}
 use Rattle.bag_history.specs.declared.Call.{Call}
 use Rattle.bag_history.specs.declared.Call.TheVariants as call
 use Rattle.bag_history.specs.declared.Entry.{Entry}
@@ -19,18 +21,13 @@ came (Put x (Err e)) = []
 came (TakeFirst r) = []
 came (TakeTag t r) = []
 
-abbrev pub listed : {R : Type 0} → Option R → List R
-listed None = []
-listed (Some x) = x ∷ []
-
 abbrev pub left : {R T : Type 0} → Entry R T → List R
 left (Put x r) = []
-left (TakeFirst r) = listed r
-left (TakeTag t r) = listed r
+left (TakeFirst r) = option_to_list r
+left (TakeTag t r) = option_to_list r
 
 abbrev pub all_of : {R T : Type 0} → (Entry R T → List R) → List (Entry R T) → List R
-all_of f [] = []
-all_of f (e ∷ es) = f e ++ all_of f es
+all_of f es = flat_map f es
 
 module _ {R T : Type 0} (before : R → R → Bool) (tagged : T → R → Bool) (room : ℕ) where
   -- what a call does to the records in the order of putting: `puts` before it, and `rest` after it

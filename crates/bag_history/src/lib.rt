@@ -1,7 +1,7 @@
 // Sequences of calls on a bag, and the law that every such sequence keeps.
 #![tactic(auto)]
 
-ghost use Rattle.std.specs.Prelude.{◌≡◌, ◌<◌, min, map, length, take, drop, slice_set};
+ghost use Rattle.std.specs.Prelude.{◌≡◌, min, map, length, take, drop};
 ghost use Rattle.bag.specs.Held.{held, Framed};
 ghost use Rattle.bag_history.specs.History.{asked, Step, Lawful};
 
@@ -10,15 +10,15 @@ use bag::record::{Ranked, Tagged};
 use bag::refusal::Refusal;
 
 // What a bag is asked.
-#[derive(Clone, Copy)]
+#[derive(Clone, Copy, Debug, PartialEq, Eq)]
 pub enum Call<R, T> {
     Put(R),
     TakeFirst,
     TakeTag(T),
 }
 
-// A call with its answer.
-#[derive(Clone, Copy)]
+// A call with its answer, whose type goes with the kind of call.
+#[derive(Clone, Copy, Debug, PartialEq, Eq)]
 pub enum Entry<R, T> {
     Put(R, Result<(), Refusal>),
     TakeFirst(Option<R>),
@@ -38,13 +38,6 @@ fn make<R: Tagged>(bag: &mut Bag<R>, call: Call<R, R::Tag>) -> Entry<R, R::Tag>
     }
 }
 
-fn write_at<E: Copy>(log: &mut [E], at: usize, e: E)
-    requires { at < length log.old }
-    ensures { log.new ≡ slice_set log.old at e }
-{
-    log[at] = e;
-}
-
 // Makes the calls in their order, as many as the log has entries for, and writes each with its answer into the log.
 pub fn run<R: Tagged>(
     bag: &mut Bag<R>,
@@ -58,8 +51,9 @@ pub fn run<R: Tagged>(
     ensures law { Lawful R.Ranked.before R.tagged (length bag.old.slots.now) (held bag.old) (take result log.new) (held bag.new) }
 {
     let n = calls.len().min(log.len());
-    for i in 0..n {
-        write_at(log, i, make(bag, calls[i]));
+    // By index, and no `zip` with `log.iter_mut()`: of a slice so written the check knows the length alone.
+    for (i, call) in calls[..n].iter().enumerate() {
+        log[i] = make(bag, *call);
     }
     n
 }

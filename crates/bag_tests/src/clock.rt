@@ -1,64 +1,13 @@
 // Clocks: running before spent, by deadline, in a holder with 1,024 slots.
 ghost use Rattle.std.specs.Prelude.{◌≡◌, true, is_ok, if◌then◌else◌, count_by, nat_lt};
 ghost use Rattle.bag.specs.Records.{put_in, head_of, tail_of, first_with, without_first, in_order};
-ghost use Rattle.bag_tests.specs.Kinds.{state_rank, clock_before, clock_tagged, clocks_in};
-ghost use Rattle.std.proofs.Common.{rules};
+ghost use Rattle.model.specs.Ranks.{clock_before, clock_tagged};
+ghost use Rattle.bag_tests.specs.Holders.{clocks_in};
 
 use bag::Bag;
 use bag::record::{Ranked, Tagged};
 use bag::refusal::Refusal;
-
-#[derive(Clone, Copy)]
-pub(crate) enum State {
-    Running,
-    Spent,
-}
-
-#[derive(Clone, Copy)]
-pub(crate) struct Clock {
-    edge: u8,
-    state: State,
-    deadline: u32,
-}
-
-#[derive(Clone, Copy)]
-pub(crate) struct Mark {
-    edge: u8,
-    state: State,
-}
-
-fn rank(s: State) -> u8
-    ensures { result ≡ state_rank s }
-{
-    match s {
-        State::Running => 0,
-        State::Spent => 1,
-    }
-}
-
-impl Ranked for Clock {
-    ghost before = { clock_before };
-
-    ghost asymmetric = { Prim.search rules };
-
-    ghost transitive = { Prim.search rules };
-
-    fn ranks_before(&self, other: &Clock) -> bool {
-        let a = rank(self.state);
-        let b = rank(other.state);
-        a < b || (a == b && self.deadline < other.deadline)
-    }
-}
-
-impl Tagged for Clock {
-    type Tag = Mark;
-
-    ghost tagged = { clock_tagged };
-
-    fn has_tag(&self, tag: Mark) -> bool {
-        self.edge == tag.edge && rank(self.state) == rank(tag.state)
-    }
-}
+use model::clock::{Clock, ClockTag};
 
 #[derive(Drop)]
 pub(crate) struct Clocks {
@@ -82,25 +31,26 @@ impl Clocks {
         Bag::over(&mut self.slots, &mut self.count).take_first()
     }
 
-    fn count_of(&self, mark: Mark) -> usize
-        ensures { result ≡ count_by (clock_tagged mark) (clocks_in self.now) }
+    fn count_of(&self, tag: ClockTag) -> usize
+        ensures { result ≡ count_by (clock_tagged tag) (clocks_in self.now) }
     {
-        bag::count_tag(&self.slots, self.count, mark)
+        bag::count_tag(&self.slots, self.count, tag)
     }
 
-    fn stop(&mut self, mark: Mark) -> Option<Clock>
-        ensures found { result ≡ first_with (clock_tagged mark) (clocks_in self.old) }
-        ensures clocks { clocks_in self.new ≡ without_first (clock_tagged mark) (clocks_in self.old) }
+    fn stop(&mut self, tag: ClockTag) -> Option<Clock>
+        ensures found { result ≡ first_with (clock_tagged tag) (clocks_in self.old) }
+        ensures clocks { clocks_in self.new ≡ without_first (clock_tagged tag) (clocks_in self.old) }
     {
-        Bag::over(&mut self.slots, &mut self.count).take_tag(mark)
+        Bag::over(&mut self.slots, &mut self.count).take_tag(tag)
     }
 }
 
 #[cfg(test)]
 mod tests {
     use super::*;
+    use model::clock::ClockState;
 
-    fn clock(edge: u8, state: State, deadline: u32) -> Clock {
+    fn clock(edge: u8, state: ClockState, deadline: u32) -> Clock {
         Clock {
             edge,
             state,
@@ -111,22 +61,22 @@ mod tests {
     #[test]
     fn by_state_and_deadline(rt: HostRuntime) {
         let mut w = Clocks {
-            slots: [clock(0, State::Spent, 0); 1024],
+            slots: [clock(0, ClockState::Spent, 0); 1024],
             count: 0,
         };
         let puts = [
-            clock(1, State::Running, 120),
-            clock(2, State::Running, 130),
-            clock(3, State::Spent, 100),
-            clock(4, State::Running, 114),
-            clock(2, State::Running, 114),
+            clock(1, ClockState::Running, 120),
+            clock(2, ClockState::Running, 130),
+            clock(3, ClockState::Spent, 100),
+            clock(4, ClockState::Running, 114),
+            clock(2, ClockState::Running, 114),
         ];
         for c in puts {
             assert!(rt; w.start(c).is_ok());
         }
-        let two = Mark {
+        let two = ClockTag {
             edge: 2,
-            state: State::Running,
+            state: ClockState::Running,
         };
         assert!(rt; w.count_of(two) == 2);
         assert!(rt; matches!(w.stop(two), Some(c) if c.deadline == 114));
@@ -136,8 +86,8 @@ mod tests {
         }
         assert!(rt; w.stop(two).is_none());
         for _ in 0..1024 {
-            assert!(rt; w.start(clock(1, State::Running, 1)).is_ok());
+            assert!(rt; w.start(clock(1, ClockState::Running, 1)).is_ok());
         }
-        assert!(rt; w.start(clock(1, State::Running, 0)).is_err());
+        assert!(rt; w.start(clock(1, ClockState::Running, 0)).is_err());
     }
 }

@@ -1,61 +1,13 @@
 // Waiting events: by kind, in a holder with 256 slots.
 ghost use Rattle.std.specs.Prelude.{◌≡◌, ◌<◌, ◌≤◌, false, is_ok, if◌then◌else◌, nat_lt};
 ghost use Rattle.bag.specs.Records.{put_in, head_of, tail_of};
-ghost use Rattle.bag_tests.specs.Kinds.{kind_of, subject_of, event_before, event_tagged, waiting};
-ghost use Rattle.std.proofs.Common.{rules};
+ghost use Rattle.model.specs.Ranks.{event_before};
+ghost use Rattle.bag_tests.specs.Holders.{waiting};
 
 use bag::Bag;
 use bag::record::{Ranked, Tagged};
 use bag::refusal::Refusal;
-
-#[derive(Clone, Copy)]
-pub(crate) enum Event {
-    Completion(u8),
-    Termination(u8),
-    Named(u8),
-}
-
-pub(crate) fn kind(e: Event) -> u8
-    ensures { result ≡ kind_of e }
-{
-    match e {
-        Event::Completion(_) => 0,
-        Event::Termination(_) => 1,
-        Event::Named(_) => 2,
-    }
-}
-
-pub(crate) fn subject(e: Event) -> u8
-    ensures { result ≡ subject_of e }
-{
-    match e {
-        Event::Completion(n) => n,
-        Event::Termination(n) => n,
-        Event::Named(n) => n,
-    }
-}
-
-impl Ranked for Event {
-    ghost before = { event_before };
-
-    ghost asymmetric = { Prim.search rules };
-
-    ghost transitive = { Prim.search rules };
-
-    fn ranks_before(&self, other: &Event) -> bool {
-        kind(*self) < kind(*other)
-    }
-}
-
-impl Tagged for Event {
-    type Tag = Event;
-
-    ghost tagged = { event_tagged };
-
-    fn has_tag(&self, tag: Event) -> bool {
-        kind(*self) == kind(tag) && subject(*self) == subject(tag)
-    }
-}
+use model::event::Event;
 
 #[derive(Drop)]
 pub(crate) struct Waiting {
@@ -103,6 +55,7 @@ mod tests {
             assert!(rt; w.put(Event::Named(1)).is_ok());
         }
         assert!(rt; w.put(Event::Completion(2)).is_ok(), "the last slot");
+        // the number that is told outside
         assert!(rt; matches!(w.put(Event::Completion(3)), Err(e) if e.number() == 47));
         assert!(rt; matches!(w.first(), Some(Event::Completion(2))));
         assert!(rt; matches!(w.take_first(), Some(Event::Completion(2))));

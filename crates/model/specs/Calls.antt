@@ -11,8 +11,7 @@ use Rattle.model.specs.declared.refusal.Refusal.{Refusal}
 use Rattle.model.specs.declared.refusal.Refusal.TheVariants.{AlreadyOpen, LateMoment, Chart, OutOfRange, EarlierMoment, OrderNotOpen, EventsWaiting, EventsFull}
 use Rattle.model.specs.declared.call.Change.{Change}
 use Rattle.model.specs.declared.call.Change.TheVariants.{Changed, Unchanged}
-use Rattle.model.specs.declared.call.Outcome.{Outcome}
-use Rattle.model.specs.declared.call.Outcome.TheVariants.{Idle, Routed}
+use Rattle.model.specs.declared.call.Routed.{Routed}
 use Rattle.model.specs.declared.call.Entry.{Entry}
 use Rattle.model.specs.declared.call.Entry.TheVariants.{Post, Tell, Report, Tick, Turn}
 use Rattle.model.specs.Ranks.{event_before}
@@ -52,31 +51,16 @@ opening moment facts = record {
 
 -- an event is added
 abbrev pub added : Event → State → State
-added ev s = record {
-  tokens = s.tokens;
-  finished = s.finished;
-  events = put_in event_before ev s.events;
-  clocks = s.clocks;
-  moment = s.moment;
-  next = s.next;
-  facts = s.facts;
-  orders = s.orders;
-}
+added ev s = record s { events = put_in event_before ev s.events }
 
 abbrev pub post_answer : State → ℕ → Result (Unit {0}) Refusal
 post_answer s v = cond (nat_lt 31 v) (Err OutOfRange) (cond (nat_le 192 (length s.events)) (Err EventsWaiting) (Ok tt))
 
 -- a fact is set, and its change added
 abbrev pub with_fact : ℕ → Option ℕ → State → State
-with_fact a v s = record {
-  tokens = s.tokens;
-  finished = s.finished;
+with_fact a v s = record s {
   events = put_in event_before (Attribute a) s.events;
-  clocks = s.clocks;
-  moment = s.moment;
-  next = s.next;
   facts = slice_set s.facts a v;
-  orders = s.orders;
 }
 
 abbrev pub same_value : Option ℕ → Option ℕ → Bool
@@ -98,14 +82,8 @@ node_of (Some o) = o.node
 
 -- an order is closed, and a termination at its node added
 abbrev pub reported : ℕ → State → State
-reported n s = record {
-  tokens = s.tokens;
-  finished = s.finished;
+reported n s = record s {
   events = put_in event_before (Termination (node_of (look_up n s.orders))) s.events;
-  clocks = s.clocks;
-  moment = s.moment;
-  next = s.next;
-  facts = s.facts;
   orders = without n s.orders;
 }
 
@@ -115,16 +93,7 @@ report_answer s n =
     (cond (nat_le 256 (length s.events)) (Err EventsFull) (Ok tt))
 
 abbrev pub ticked : ℕ → State → State
-ticked m s = record {
-  tokens = s.tokens;
-  finished = s.finished;
-  events = s.events;
-  clocks = s.clocks;
-  moment = m;
-  next = s.next;
-  facts = s.facts;
-  orders = s.orders;
-}
+ticked m s = record s { moment = m }
 
 abbrev pub tick_answer : State → ℕ → Result (Unit {0}) Refusal
 tick_answer s m = cond (nat_lt latest m) (Err LateMoment) (cond (nat_lt m s.moment) (Err EarlierMoment) (Ok tt))
@@ -142,9 +111,9 @@ left_by_tell (Ok Changed) s t = t
 left_by_tell (Ok Unchanged) s t = s
 left_by_tell (Err e) s t = s
 
-abbrev pub left_by_turn : Graph → Result Outcome Refusal → List ℕ → State → State
-left_by_turn c (Ok Idle) buffer s = s
-left_by_turn c (Ok (Routed ev edges orders)) buffer s = moved c (take edges buffer) (routed ev s)
+abbrev pub left_by_turn : Graph → Result (Option Routed) Refusal → List ℕ → State → State
+left_by_turn c (Ok None) buffer s = s
+left_by_turn c (Ok (Some done)) buffer s = moved c (take done.edges buffer) (routed done.event s)
 left_by_turn c (Err e) buffer s = s
 
 -- the state after an entry, by the call, its answer and its buffer alone
@@ -156,9 +125,9 @@ recorded c s (Tick m r) = left_by r s (ticked m s)
 recorded c s (Turn room r buffer) = left_by_turn c r buffer s
 
 -- a turn that took edges has them in its buffer
-abbrev pub Written : Graph → (ℕ → ℕ) → State → Result Outcome Refusal → List ℕ → Type 0
-Written c rank s (Ok Idle) buffer = Unit {0}
-Written c rank s (Ok (Routed ev edges orders)) buffer = take edges buffer ≡ taken c rank ev s
+abbrev pub Written : Graph → (ℕ → ℕ) → State → Result (Option Routed) Refusal → List ℕ → Type 0
+Written c rank s (Ok None) buffer = Unit {0}
+Written c rank s (Ok (Some done)) buffer = take done.edges buffer ≡ taken c rank done.event s
 Written c rank s (Err e) buffer = Unit {0}
 
 -- the entry has the answer to its call, by the ranks of the edges

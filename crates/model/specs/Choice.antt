@@ -1,5 +1,5 @@
 -- Which enabled edges a step takes. Assumes nothing.
-use Rattle.std.specs.Prelude.{ℕ, zero, suc, ◌+◌, ◌-◌, min, Bool, true, cond, not, ◌&&◌, ◌||◌, List, [], ◌∷◌, ◌++◌, ◌==◌, nat_le, nat_lt}
+use Rattle.std.specs.Prelude.{ℕ, zero, suc, ◌+◌, ◌-◌, min, Bool, true, cond, not, ◌&&◌, ◌||◌, List, [], ◌∷◌, ◌++◌, count_by, ◌==◌, nat_le, nat_lt}
 
 -- what a choice goes by: so many edges and nodes, which nodes an edge leaves, the tokens at a node, the copies of an edge
 pub record Basis : Type 0 where
@@ -11,8 +11,7 @@ pub record Basis : Type 0 where
 
 -- how many of a list pass
 abbrev pub count : (ℕ → Bool) → List ℕ → ℕ
-count p [] = 0
-count p (x ∷ xs) = cond (p x) 1 0 + count p xs
+count p xs = count_by p xs
 
 -- the sum of `f` below a number
 unfoldable pub total : (ℕ → ℕ) → ℕ → ℕ

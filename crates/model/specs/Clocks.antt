@@ -1,5 +1,6 @@
 -- How the clocks ring, and how they follow the relevance of the timed edges. Assumes nothing.
-use Rattle.std.specs.Prelude.{ℕ, zero, suc, ◌+◌, ◌-◌, Bool, true, false, cond, ◌&&◌, ◌||◌, List, [], ◌∷◌, ◌++◌, length, is_some, Some, None, filter, Option, ◌==◌, nat_le, nat_lt}
+use Rattle.std.specs.Prelude.{ℕ, zero, suc, ◌+◌, ◌-◌, Bool, true, false, cond, ◌&&◌, List, [], ◌∷◌, ◌++◌, length, is_some, Some, None, filter, Option, ◌==◌, nat_le, nat_lt}
+use Rattle.std.specs.List.{list_all, list_any}
 use Rattle.bag.specs.Records.{put_in, first_with, without_first}
 use Rattle.model.specs.Ranks.{clock_before, clock_tagged}
 use Rattle.model.specs.declared.clock.ClockState.{ClockState}
@@ -32,7 +33,7 @@ rings Running due = due
 rings Spent due = false
 
 abbrev pub spent : Clock → Clock
-spent c = record { edge = c.edge; state = Spent; deadline = c.deadline }
+spent c = record c { state = Spent }
 
 -- the clock that rings, and the clocks after it has
 abbrev pub rung : ℕ → List Clock → Option Clock
@@ -74,16 +75,14 @@ followed moment b m e (x ∷ xs) cs = followed moment b m e xs (edge_followed mo
 
 -- the edges rise, and an edge is among them
 abbrev pub above : ℕ → List Timed → Bool
-above n [] = true
-above n (x ∷ xs) = nat_lt n x.edge && above n xs
+above n xs = list_all (λ x. nat_lt n x.edge) xs
 
 abbrev pub rising : List Timed → Bool
 rising [] = true
 rising (x ∷ xs) = above x.edge xs && rising xs
 
 abbrev pub is_timed : List Timed → ℕ → Bool
-is_timed [] n = false
-is_timed (x ∷ xs) n = x.edge == n || is_timed xs n
+is_timed xs n = list_any (λ x. x.edge == n) xs
 
 -- the clocks that an edge has by a relevance: as many as that if it is timed, else none
 abbrev pub owed : List Timed → (ℕ → ℕ) → ℕ → ℕ

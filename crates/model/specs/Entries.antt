@@ -1,10 +1,10 @@
 -- What a log says. Assumes nothing.
-use Rattle.std.specs.Prelude.{ℕ, List, [], ◌∷◌, ◌++◌, take, Ok, Err, Result}
+use Rattle.std.specs.Prelude.{ℕ, List, [], take, Some, None, Ok, Err, Option, Result}
+use Rattle.std.specs.List.{flat_map}
 use Rattle.model.specs.declared.refusal.Refusal.{Refusal}
 use Rattle.model.specs.declared.call.Call.{Call}
 use Rattle.model.specs.declared.call.Call.TheVariants as call
-use Rattle.model.specs.declared.call.Outcome.{Outcome}
-use Rattle.model.specs.declared.call.Outcome.TheVariants.{Idle, Routed}
+use Rattle.model.specs.declared.call.Routed.{Routed}
 use Rattle.model.specs.declared.call.Entry.{Entry}
 use Rattle.model.specs.declared.call.Entry.TheVariants.{Post, Tell, Report, Tick, Turn}
 
@@ -17,9 +17,9 @@ call_of (Tick m r) = call.Tick m
 call_of (Turn room r buffer) = call.Turn room
 
 -- the edges that were taken, by a turn's answer and buffer: as many as the answer says
-abbrev pub taken_in : Result Outcome Refusal → List ℕ → List ℕ
-taken_in (Ok Idle) buffer = []
-taken_in (Ok (Routed event edges orders)) buffer = take edges buffer
+abbrev pub taken_in : Result (Option Routed) Refusal → List ℕ → List ℕ
+taken_in (Ok None) buffer = []
+taken_in (Ok (Some done)) buffer = take done.edges buffer
 taken_in (Err e) buffer = []
 
 abbrev pub taken_by : Entry → List ℕ
@@ -31,5 +31,4 @@ taken_by (Turn room r buffer) = taken_in r buffer
 
 -- all the edges that were taken over a log, in order
 abbrev pub all_taken : List Entry → List ℕ
-all_taken [] = []
-all_taken (x ∷ xs) = taken_by x ++ all_taken xs
+all_taken xs = flat_map taken_by xs

@@ -1,5 +1,6 @@
 -- A chart by its meaning: what stands at each node and each edge. Assumes nothing.
 use Rattle.std.specs.Prelude.{◌≡◌, ℕ, zero, suc, ◌<◌, ◌≤◌, Bool, true, false, cond, not, ◌&&◌, ◌||◌, List, [], ◌∷◌, ◌++◌, length, is_some, Some, None, Option, ◌==◌, slice_index_or}
+use Rattle.std.specs.List.{list_any, flat_map}
 use Rattle.layout.specs.Sets.{member}
 use Rattle.layout.specs.declared.parts.Node.{Node}
 use Rattle.layout.specs.declared.parts.Condition.{Condition}
@@ -114,8 +115,7 @@ asked (Some g) = conditions g
 
 -- whether some condition passes
 abbrev pub any_of : (Condition → Bool) → List Condition → Bool
-any_of p [] = false
-any_of p (x ∷ xs) = p x || any_of p xs
+any_of p xs = list_any p xs
 
 abbrev pub names_attribute : ℕ → Condition → Bool
 names_attribute a (Equal b v) = b == a
@@ -144,8 +144,7 @@ members p (suc n) = members p n ++ cond (p n) (n ∷ []) []
 
 -- the nodes that are entered, in order: by each edge, rising
 abbrev pub entered : Graph → List ℕ → List ℕ
-entered c [] = []
-entered c (x ∷ xs) = members (c.target x) c.nodes ++ entered c xs
+entered c xs = flat_map (λ x. members (c.target x) c.nodes) xs
 
 -- the least over the sources of an edge; no case has more than 64 tokens
 abbrev pub relevance : Graph → (ℕ → ℕ) → ℕ → ℕ

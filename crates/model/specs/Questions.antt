@@ -1,5 +1,6 @@
 -- What the questions answer. Assumes nothing.
 use Rattle.std.specs.Prelude.{◌≡◌, ℕ, ◌<◌, ◌≤◌, Bool, true, cond, not, ◌&&◌, Some, None, Ok, Err, count_by, Option, Result, nat_lt, slice_index_or}
+use Rattle.std.specs.Option.{ok_or}
 use Rattle.desk.specs.Orders.{look_up}
 use Rattle.desk.specs.declared.Order.{Order}
 use Rattle.model.specs.declared.refusal.Refusal.{Refusal}
@@ -27,8 +28,7 @@ abbrev pub spent_clocks : Graph → State → ℕ → ℕ
 spent_clocks c s e = cond (is_clocked (c.cause e)) (count_by (spent_of e) s.clocks) 0
 
 abbrev pub found : Option Order → Result Order Refusal
-found None = Err OrderNotOpen
-found (Some o) = Ok o
+found o = ok_or o OrderNotOpen
 
 abbrev pub order_answer : State → ℕ → Result Order Refusal
 order_answer s n = found (look_up n s.orders)

@@ -2,19 +2,32 @@
 use Rattle.std.specs.Prelude.{ℕ, Bool, ◌&&◌, ◌||◌, ◌==◌, nat_lt}
 use Rattle.model.specs.declared.event.Event.{Event}
 use Rattle.model.specs.declared.event.Event.TheVariants.{Completion, Termination, Attribute, Node, Named, Ring}
+use Rattle.model.specs.declared.event.Priority.{Priority}
+use Rattle.model.specs.declared.event.Priority.TheVariants as priority
 use Rattle.model.specs.declared.clock.ClockState.{ClockState}
 use Rattle.model.specs.declared.clock.ClockState.TheVariants.{Running, Spent}
 use Rattle.model.specs.declared.clock.Clock.{Clock}
 use Rattle.model.specs.declared.clock.ClockTag.{ClockTag}
 
--- the lowest leaves first; a ring never waits
+-- a ring never waits
+abbrev pub priority_of : Event → Priority
+priority_of (Completion n) = priority.Completion
+priority_of (Termination n) = priority.Termination
+priority_of (Attribute a) = priority.Change
+priority_of (Node n) = priority.Change
+priority_of (Named v) = priority.Named
+priority_of (Ring e) = priority.Ring
+
+-- the lowest leaves first
+abbrev pub rank_of : Priority → ℕ
+rank_of priority.Completion = 0
+rank_of priority.Termination = 1
+rank_of priority.Change = 2
+rank_of priority.Named = 3
+rank_of priority.Ring = 4
+
 abbrev pub event_rank : Event → ℕ
-event_rank (Completion n) = 0
-event_rank (Termination n) = 1
-event_rank (Attribute a) = 2
-event_rank (Node n) = 2
-event_rank (Named v) = 3
-event_rank (Ring e) = 4
+event_rank x = rank_of (priority_of x)
 
 abbrev pub event_before : Event → Event → Bool
 event_before x y = nat_lt (event_rank x) (event_rank y)

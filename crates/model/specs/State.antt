@@ -1,5 +1,5 @@
 -- A case by its meaning, and what always holds of it. Assumes nothing.
-use Rattle.std.specs.Prelude.{◌≡◌, ℕ, ◌+◌, ◌<◌, ◌≤◌, Bool, true, false, cond, List, [], ◌∷◌, length, Some, Option, ◌==◌}
+use Rattle.std.specs.Prelude.{◌≡◌, ℕ, ◌+◌, ◌<◌, ◌≤◌, Bool, true, false, cond, List, length, Some, count_by, Option, ◌==◌}
 use Rattle.std.specs.List.{AllByRecursion}
 use Rattle.bag.specs.Records.{in_order}
 use Rattle.desk.specs.Orders.{Ascending}
@@ -29,31 +29,21 @@ pub record State : Type 0 where
 
 -- whether the event is a termination at the node
 abbrev pub terminates : Event → ℕ → Bool
-terminates (event.Completion m) n = false
 terminates (event.Termination m) n = m == n
-terminates (event.Attribute a) n = false
-terminates (event.Node m) n = false
-terminates (event.Named v) n = false
-terminates (event.Ring e) n = false
+terminates _ n = false
 
 -- a ring never waits
 abbrev pub can_wait : Event → Bool
-can_wait (event.Completion n) = true
-can_wait (event.Termination n) = true
-can_wait (event.Attribute a) = true
-can_wait (event.Node n) = true
-can_wait (event.Named v) = true
 can_wait (event.Ring e) = false
+can_wait _ = true
 
 -- how many reports at the node wait
 abbrev pub reports_at : ℕ → List Event → ℕ
-reports_at n [] = 0
-reports_at n (x ∷ xs) = cond (terminates x n) 1 0 + reports_at n xs
+reports_at n xs = count_by (λ x. terminates x n) xs
 
 -- how many open orders stand at the node
 abbrev pub orders_at : ℕ → List Order → ℕ
-orders_at n [] = 0
-orders_at n (x ∷ xs) = cond (x.node == n) 1 0 + orders_at n xs
+orders_at n xs = count_by (λ x. x.node == n) xs
 
 -- what is available at a node: the finished tokens of an action node, all tokens of another
 abbrev pub free : Graph → (ℕ → ℕ) → (ℕ → ℕ) → ℕ → ℕ

@@ -1,5 +1,7 @@
 -- One turn, step by step. Assumes nothing.
-use Rattle.std.specs.Prelude.{ℕ, ◌+◌, ◌-◌, Bool, true, false, cond, not, ◌&&◌, ltb, List, [], ◌∷◌, length, is_some, Some, None, Ok, Err, Option, Result, ◌==◌, nat_eq, nat_le, nat_lt, slice_index_or}
+use Rattle.std.specs.Prelude.{ℕ, ◌+◌, ◌-◌, Bool, true, false, cond, not, ltb, List, [], ◌∷◌, length, is_some, Some, None, Ok, Err, Option, Result, ◌==◌, nat_eq, nat_le, nat_lt, slice_index_or}
+use Rattle.std.specs.List.{list_all}
+use Rattle.std.specs.Option.{option_map, unwrap_or}
 use Rattle.layout.specs.declared.parts.Condition.{Condition}
 use Rattle.layout.specs.declared.parts.Condition.TheVariants.{Equal, AtLeast, LessThan, Absent, HoldsToken}
 use Rattle.layout.specs.declared.parts.Guard.{Guard}
@@ -11,8 +13,7 @@ use Rattle.desk.specs.declared.Order.{Order}
 use Rattle.model.specs.declared.event.Event.{Event}
 use Rattle.model.specs.declared.event.Event.TheVariants.{Completion, Termination, Attribute, Node, Named, Ring}
 use Rattle.model.specs.declared.clock.Clock.{Clock}
-use Rattle.model.specs.declared.call.Outcome.{Outcome}
-use Rattle.model.specs.declared.call.Outcome.TheVariants.{Idle, Routed}
+use Rattle.model.specs.declared.call.Routed.{Routed}
 use Rattle.model.specs.declared.refusal.Refusal.{Refusal}
 use Rattle.model.specs.declared.refusal.Refusal.TheVariants.{ShortBuffer, TooManyTokens, TooManyEvents, NoOrderNumber}
 use Rattle.model.specs.Choice.{Basis, count, total, greedy}
@@ -24,8 +25,7 @@ use Rattle.model.specs.State.{State, terminates, free, available, relevant_to}
 -- 1. THE EVENT: the first that waits, or else the ring of the due clock of earliest deadline
 
 abbrev pub ring_of : Option Clock → Option Event
-ring_of None = None
-ring_of (Some k) = Some (Ring k.edge)
+ring_of o = option_map (λ k. Ring k.edge) o
 
 abbrev pub event_in : ℕ → List Clock → List Event → Option Event
 event_in moment ks [] = ring_of (rung moment ks)
@@ -42,15 +42,10 @@ clocks_routed moment ks (x ∷ xs) = ks
 -- 2. THE EVENT LEAVES, and a termination makes a token finished
 
 abbrev pub routed : Event → State → State
-routed ev s = record {
-  tokens = s.tokens;
+routed ev s = record s {
   finished = λ n. s.finished n + cond (terminates ev n) 1 0;
   events = tail_of s.events;
   clocks = clocks_routed s.moment s.clocks s.events;
-  moment = s.moment;
-  next = s.next;
-  facts = s.facts;
-  orders = s.orders;
 }
 
 -- 3. THE COPIES THAT ARE ENABLED
@@ -69,8 +64,7 @@ holds s (HoldsToken n) = nat_lt 0 (s.tokens n)
 
 -- a guard is true if all its conditions are
 abbrev pub guard_true : State → List Condition → Bool
-guard_true s [] = true
-guard_true s (x ∷ xs) = holds s x && guard_true s xs
+guard_true s xs = list_all (holds s) xs
 
 -- whether the event concerns a plain edge: any event where it has no guard
 abbrev pub concerns : (ℕ → Bool) → Option Guard → Event → Bool
@@ -84,20 +78,12 @@ concerns source (Some g) (Ring e) = false
 
 -- whether the event is this named event, or this edge's ring
 abbrev pub is_named : ℕ → Event → Bool
-is_named v (Completion n) = false
-is_named v (Termination n) = false
-is_named v (Attribute a) = false
-is_named v (Node n) = false
 is_named v (Named w) = w == v
-is_named v (Ring e) = false
+is_named v _ = false
 
 abbrev pub is_ring : ℕ → Event → Bool
-is_ring e (Completion n) = false
-is_ring e (Termination n) = false
-is_ring e (Attribute a) = false
-is_ring e (Node n) = false
-is_ring e (Named v) = false
 is_ring e (Ring x) = x == e
+is_ring e _ = false
 
 -- by an edge's cause, whether the event concerns it if plain, its number and its relevance
 abbrev pub copies : Cause → Bool → Event → ℕ → ℕ → ℕ
@@ -168,8 +154,7 @@ arrived c [] es = es
 arrived c (n ∷ ns) es = arrived c ns (put_if (watched c n) (Node n) (put_if (waits c n) (Completion n) es))
 
 abbrev pub number_in : Option ℕ → ℕ
-number_in None = 0
-number_in (Some v) = v
+number_in o = unwrap_or o 0
 
 abbrev pub order_for : Graph → ℕ → ℕ → Order
 order_for c k n = record { number = k; node = n; activity = number_in (c.activity n) }
@@ -185,14 +170,12 @@ new_orders c xs = count (action c) (entered c xs)
 
 -- the edges are taken
 abbrev pub moved : Graph → List ℕ → State → State
-moved c xs s = record {
+moved c xs s = record s {
   tokens = tokens_moved c xs s;
   finished = finished_moved c xs s;
   events = arrived c (entered c xs) (sent c xs s.events);
   clocks = clocks_moved c xs s;
-  moment = s.moment;
   next = s.next + new_orders c xs;
-  facts = s.facts;
   orders = opened c s.next (entered c xs) s.orders;
 }
 
@@ -205,16 +188,16 @@ overflow c s =
     (cond (nat_lt 256 (length s.events)) (Some TooManyEvents)
     (cond (nat_lt 65536 s.next) (Some NoOrderNumber) None))
 
-abbrev pub unless : Option Refusal → Outcome → Result Outcome Refusal
-unless None o = Ok o
-unless (Some e) o = Err e
+abbrev pub unless : Option Refusal → Routed → Result (Option Routed) Refusal
+unless None done = Ok (Some done)
+unless (Some e) done = Err e
 
-abbrev pub answer_to : Graph → (ℕ → ℕ) → Option Event → State → Result Outcome Refusal
-answer_to c rank None s = Ok Idle
+abbrev pub answer_to : Graph → (ℕ → ℕ) → Option Event → State → Result (Option Routed) Refusal
+answer_to c rank None s = Ok None
 answer_to c rank (Some ev) s =
     unless (overflow c (moved c (taken c rank ev s) (routed ev s)))
-    (Routed ev (length (taken c rank ev s)) (new_orders c (taken c rank ev s)))
+    (record { event = ev; edges = length (taken c rank ev s); orders = new_orders c (taken c rank ev s) })
 
 -- by a buffer of so many bytes
-abbrev pub turn : Graph → (ℕ → ℕ) → ℕ → State → Result Outcome Refusal
+abbrev pub turn : Graph → (ℕ → ℕ) → ℕ → State → Result (Option Routed) Refusal
 turn c rank room s = cond (nat_lt room 64) (Err ShortBuffer) (answer_to c rank (event_of s) s)

@@ -20,23 +20,23 @@ pub enum Call {
     Turn { room: usize },
 }
 
-// Whether telling a fact changed it.
-#[derive(Clone, Copy)]
+// Whether telling a fact changed it: no `bool`, so that an answer in a log reads by itself.
+#[derive(Clone, Copy, Debug, PartialEq, Eq)]
 pub enum Change {
     Changed,
     Unchanged,
 }
 
-// What a turn came to.
-#[derive(Clone, Copy)]
-pub enum Outcome {
-    // nothing waited, and no clock was due
-    Idle,
-    // the event was routed: so many edges were taken, and so many orders opened
-    Routed { event: Event, edges: u8, orders: u8 },
+// What a turn routed: the event, of which so many edges were taken, and so many orders opened.
+#[derive(Clone, Copy, Debug, PartialEq, Eq)]
+pub struct Routed {
+    pub event: Event,
+    pub edges: u8,
+    pub orders: u8,
 }
 
-// A call with its answer. A turn has its buffer too, which begins with the edges that were taken, in step order.
+// A call with its answer, whose type goes with the kind of call: so a call's fields stand here again.
+// A turn has its buffer too, which begins with the edges that were taken, in step order.
 #[derive(Clone, Copy)]
 pub enum Entry {
     Post {
@@ -58,7 +58,9 @@ pub enum Entry {
     },
     Turn {
         room: usize,
-        answer: Result<Outcome, Refusal>,
+        // `None`: nothing waited, and no clock was due
+        answer: Result<Option<Routed>, Refusal>,
+        // the caller's, whose size is fixed
         buffer: [u8; 64],
     },
 }
@@ -69,19 +71,15 @@ impl Entry {
         ensures { result ≡ call_of self.now }
     {
         match *self {
-            Entry::Post { event, answer: _ } => Call::Post { event },
+            Entry::Post { event, .. } => Call::Post { event },
             Entry::Tell {
                 attribute,
                 value,
-                answer: _,
+                ..
             } => Call::Tell { attribute, value },
-            Entry::Report { order, answer: _ } => Call::Report { order },
-            Entry::Tick { moment, answer: _ } => Call::Tick { moment },
-            Entry::Turn {
-                room,
-                answer: _,
-                buffer: _,
-            } => Call::Turn { room },
+            Entry::Report { order, .. } => Call::Report { order },
+            Entry::Tick { moment, .. } => Call::Tick { moment },
+            Entry::Turn { room, .. } => Call::Turn { room },
         }
     }
 }

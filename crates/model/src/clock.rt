@@ -1,19 +1,18 @@
 // The clocks of a case.
-ghost use Rattle.std.specs.Prelude.{◌≡◌};
-ghost use Rattle.model.specs.Ranks.{state_rank, clock_before, clock_tagged};
+ghost use Rattle.model.specs.Ranks.{clock_before, clock_tagged};
 ghost use Rattle.std.proofs.Common.{rules};
 
 use bag::record::{Ranked, Tagged};
 
 // A clock runs until its ring is taken by a turn, and is spent from then on.
-#[derive(Clone, Copy)]
+#[derive(Clone, Copy, Debug, PartialEq, Eq, PartialOrd, Ord)]
 pub enum ClockState {
     Running,
     Spent,
 }
 
 // A clock of a timed edge: it stands for one of the times that the edge is relevant, and is due at its deadline.
-#[derive(Clone, Copy)]
+#[derive(Clone, Copy, Debug, PartialEq, Eq)]
 pub struct Clock {
     pub edge: u8,
     pub state: ClockState,
@@ -21,19 +20,10 @@ pub struct Clock {
 }
 
 // What clocks are counted and taken by.
-#[derive(Clone, Copy)]
+#[derive(Clone, Copy, Debug, PartialEq, Eq)]
 pub struct ClockTag {
     pub edge: u8,
     pub state: ClockState,
-}
-
-fn rank(state: ClockState) -> u8
-    ensures { result ≡ state_rank state }
-{
-    match state {
-        ClockState::Running => 0,
-        ClockState::Spent => 1,
-    }
 }
 
 // Running clocks leave before spent ones, and the earlier deadline first.
@@ -45,9 +35,7 @@ impl Ranked for Clock {
     ghost transitive = { Prim.search rules };
 
     fn ranks_before(&self, other: &Clock) -> bool {
-        let a = rank(self.state);
-        let b = rank(other.state);
-        a < b || (a == b && self.deadline < other.deadline)
+        (self.state, self.deadline) < (other.state, other.deadline)
     }
 }
 
@@ -57,6 +45,10 @@ impl Tagged for Clock {
     ghost tagged = { clock_tagged };
 
     fn has_tag(&self, tag: ClockTag) -> bool {
-        self.edge == tag.edge && rank(self.state) == rank(tag.state)
+        let own = ClockTag {
+            edge: self.edge,
+            state: self.state,
+        };
+        own == tag
     }
 }

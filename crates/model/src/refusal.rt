@@ -38,7 +38,8 @@ pub enum Refusal {
 }
 
 impl Refusal {
-    // The number under which the refusal is told; a want of memory has none.
+    // The number under which the refusal is told. `as` gives no number of an enum of which a variant has a cause,
+    // and a want of memory has none.
     pub fn number(self) -> Option<u8>
         ensures { result ≡ refusal_number self }
     {

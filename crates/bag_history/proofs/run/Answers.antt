@@ -1,4 +1,5 @@
-use Rattle.std.proofs.Common.{◌≡◌, ◌<◌, length, refl, ◌∙◌, subst, arith}
+use Rattle.std.proofs.Common.{◌<◌, length, refl, ◌∙◌, subst, arith}
+use Rattle.std.proofs.lemmas.List.{length-take, get_or-take}
 use Rattle.bag.specs.Held.{held}
 use Rattle.bag_history.specs.History.{Step}
 use Rattle.bag.proofs.Frames.{framed_none, framed_then}
@@ -12,27 +13,18 @@ loop-i-init g c =
 pub loop-i-preserved : goal.loop-i-preserved
 loop-i-preserved g c =
     let i = c.loop-i.i in
+    let n = c.min-n.result in
     let log = c.loop-i.log in
+    let calls = c.args.calls.now in
     let e = c.make.result in
     let inv = c.loop-i.invariant in
+    let long = length-take n calls in
     let h : i < length log = omega arith in
-    let k : i < length c.args.calls.now = omega arith in
-    let room = subst (λ n. Step g.R.Ranked.before g.R.Tagged.tagged n (held c.loop-i.bag) e (held c.make.new.bag)) inv.2.long c.make.ensures.step in
-    let written = c.write_at.ensures in (
-      asked_more log _ i e h written c.args.calls.now _ k inv.0 (c.make.ensures.asked ∙ c.index-calls-i.is),
-      rest_more log _ i e h written c.args.log.now inv.1,
+    let k : i < length calls = omega arith in
+    let read = c.call-item.is ∙ get_or-take n calls i c.call-item.result (omega arith) in
+    let room = subst (λ n. Step g.R.Ranked.before g.R.Tagged.tagged n (held c.loop-i.bag) e (held c.make.new.bag)) inv.2.long c.make.ensures.step in (
+      asked_more log _ i e h refl calls _ k inv.0 (c.make.ensures.asked ∙ read),
+      rest_more log _ i e h refl c.args.log.now inv.1,
       framed_then _ _ _ inv.2 c.make.ensures.framed,
-      lawful_more g.R.Ranked.before g.R.Tagged.tagged _ _ log _ i _ e _ h written inv.3 room,
+      lawful_more g.R.Ranked.before g.R.Tagged.tagged _ _ log _ i _ e _ h refl inv.3 room,
     )
-
-pub returns : goal.returns
-returns g c =
-    let end : c.loop-i.i ≡ c.min-n.result = omega arith in
-    let inv = c.loop-i.invariant in
-    record {
-      all = c.min-n.ensures;
-      asked = rw end at inv.0;
-      rest = rw end at inv.1;
-      framed = inv.2;
-      law = rw end at inv.3;
-    }
