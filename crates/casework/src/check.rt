@@ -24,10 +24,9 @@ fn words_of(heap: Global, text: &[u8], bytes: &[u8]) -> Result<String, AllocErro
 {
     match read(heap, bytes) {
         Ok(chart) => describe(heap, chart.nodes(), chart.edges()),
-        Err(error) => match error {
-            ReadError::Refused(refusal) => refused(heap, text, refusal),
-            ReadError::Memory => Err(AllocError),
-        },
+        Err(ReadError::Refused(refusal)) => refused(heap, text, refusal),
+        // no `?`: the other error is an answer, and this function's own error is want of memory alone
+        Err(ReadError::Memory) => Err(AllocError),
     }
 }
 
@@ -36,8 +35,5 @@ pub fn answer(heap: Global, text: &[u8]) -> Result<String, TextError>
     ensures { Answers text.now result }
 {
     let bytes = bytes_of(heap, text)?;
-    match words_of(heap, text, bytes.as_slice()) {
-        Ok(words) => Ok(words),
-        Err(_) => Err(TextError::Memory),
-    }
+    Ok(words_of(heap, text, bytes.as_slice())?)
 }

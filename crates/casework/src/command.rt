@@ -1,6 +1,9 @@
 // The commands of the program.
-ghost use Rattle.std.specs.Prelude.{◌≡◌};
+ghost use Rattle.std.specs.Prelude.{◌≡◌, Some};
 ghost use Rattle.casework.specs.Answers.{Names, advice_words};
+
+use std::error::Error;
+use std::fmt;
 
 #[derive(Clone, Copy)]
 pub enum Command {
@@ -11,7 +14,7 @@ pub enum Command {
 }
 
 // Why words are no command.
-#[derive(Clone, Copy)]
+#[derive(Clone, Copy, Debug)]
 pub enum Misuse {
     // check wants one file
     NotOneFile,
@@ -25,20 +28,12 @@ pub enum Misuse {
 pub fn command_of(word: &str, others: usize) -> Result<Command, Misuse>
     ensures { Names word.now others result }
 {
-    if word == "check" {
-        if others == 1 {
-            Ok(Command::Check)
-        } else {
-            Err(Misuse::NotOneFile)
-        }
-    } else if word == "help" {
-        if others == 0 {
-            Ok(Command::Help)
-        } else {
-            Err(Misuse::NotAlone)
-        }
-    } else {
-        Err(Misuse::Unknown)
+    match (word, others) {
+        ("check", 1) => Ok(Command::Check),
+        ("check", _) => Err(Misuse::NotOneFile),
+        ("help", 0) => Ok(Command::Help),
+        ("help", _) => Err(Misuse::NotAlone),
+        _ => Err(Misuse::Unknown),
     }
 }
 
@@ -52,3 +47,13 @@ pub fn advice(misuse: Misuse) -> &'static str
         Misuse::Unknown => "no such command: see casework help",
     }
 }
+
+impl fmt::Display for Misuse {
+    ghost output = { λ m. Some (advice_words m) };
+
+    fn fmt<W: fmt::Write>(&self, f: &mut fmt::Formatter<W>) -> fmt::Result {
+        f.write_str(advice(*self))
+    }
+}
+
+impl Error for Misuse {}

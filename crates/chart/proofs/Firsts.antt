@@ -1,31 +1,57 @@
--- The search for the first record that breaks a rule, and for the lowest rule.
-use Rattle.std.proofs.Common.{◌≡◌, ℕ, suc, ◌+◌, ◌-◌, ◌<◌, ◌≤◌, Bool, true, false, cond, List, length, get_or, drop, Some, None, Option, sym, ap, ◌∙◌, arith}
-use Rattle.std.proofs.lemmas.List.{at_drop_more, at_drop_all}
-use Rattle.layout.specs.declared.parts.Node.{Node}
-use Rattle.layout.specs.declared.parts.RawEdge.{RawEdge}
-use Rattle.chart.specs.declared.rules.Rule.{Rule}
-use Rattle.chart.specs.declared.rules.Breach.{Breach}
-use Rattle.chart.specs.Judge.{first_from, first_record, first_of, or_else}
+-- The search through the rules: the first answer of a closure at the items of a run.
+use Rattle.std.proofs.Common.{◌≡◌, ℕ, zero, suc, ◌+◌, ◌<◌, List, [], ◌∷◌, length, get_or, Some, None, Option, sym, refl, ap, ◌∙◌, arith}
+use Rattle.std.specs.Bool.{IsTrue}
+use Rattle.std.specs.Fn.{Called, Mut}
+use Rattle.std.specs.Option.{MatchOption, IfSome, IsSomeAnd, option_map}
+use Rattle.std.specs.List.{filter_map, cons_option, slice_get}
+use Rattle.std.specs.Iterator.Runs.{Run, SomeRun, EachRunFrom, ItemsMapTo, AllItemsGive, IsFirstToGive}
 
-module _ (f : ℕ → Bool) (n k : ℕ) {v : Option ℕ} where
-  step : k < n → first_from f (n - k) k ≡ v → cond (f k) (Some k) (first_from f (n - (k + 1)) (k + 1)) ≡ v
-  step h inv = let e : n - k ≡ suc (n - (k + 1)) = omega arith in ap (λ m. first_from f m k) (sym e) ∙ inv
+-- an item at place k of a run that goes along a list
+record Item {A B : Type 0} (v : A → B) (P : A → Type 0) (y : B) : Type 0 where
+  pub item : A
+  pub reads : v item ≡ y
+  pub holds : P item
 
-  pub hit : k < n → first_from f (n - k) k ≡ v → true ≡ f k → Some k ≡ v
-  hit h inv e = ap (λ b. cond b (Some k) (first_from f (n - (k + 1)) (k + 1))) e ∙ step h inv
+if_some : {A B : Type 0} (v : A → B) (P : A → Type 0) (o : Option A) (y : B) → option_map v o ≡ Some y → IfSome o P → Item v P y
+if_some v P None y e h = absurd cc
+if_some v P (Some x) y e h = record { item = x; reads = cc; holds = h }
 
-  pub miss : k < n → first_from f (n - k) k ≡ v → false ≡ f k → first_from f (n - (k + 1)) (k + 1) ≡ v
-  miss h inv e = ap (λ b. cond b (Some k) (first_from f (n - (k + 1)) (k + 1))) e ∙ step h inv
+some_and : {A B : Type 0} (v : A → B) (P : A → Type 0) (o : Option A) (y : B) → option_map v o ≡ Some y → IsSomeAnd o P → Item v P y
+some_and v P None y e h = absurd h
+some_and v P (Some x) y e h = record { item = x; reads = cc; holds = h }
 
-  pub none : n ≤ k → first_from f (n - k) k ≡ v → None ≡ v
-  none h inv = let e : n - k ≡ 0 = omega arith in ap (λ m. first_from f m k) (sym e) ∙ inv
+module _ {B C : Type 0} (h : B → Option C) where
+  nothing : (xs : List B) → ((k : ℕ) (d : B) → k < length xs → h (get_or xs k d) ≡ None) → None ≡ slice_get (filter_map h xs) 0
+  nothing [] e = refl
+  nothing (x ∷ xs) e = nothing xs (λ k d l. e (suc k) d (omega arith)) ∙ ap (λ o. slice_get (cons_option o (filter_map h xs)) 0) (sym (e 0 x (omega arith)))
 
-module _ (ns : List Node) (es : List RawEdge) (rs : List Rule) (i : ℕ) {v : Option Breach} where
-  pub breach_hit : (d : Rule) (k : ℕ) → i < length rs → first_of (drop i rs) ns es ≡ v → Some k ≡ first_record (get_or rs i d) ns es → Some (record { rule = get_or rs i d; index = k }) ≡ v
-  breach_hit d k h inv e = ap (λ o. or_else (get_or rs i d) o (first_of (drop (i + 1) rs) ns es)) e ∙ sym (at_drop_more (λ l. first_of l ns es) rs i d h) ∙ inv
+  first_at : (xs : List B) (i : ℕ) (y : C) → i < length xs → ((d : B) → h (get_or xs i d) ≡ Some y) → ((k : ℕ) (d : B) → k < i → h (get_or xs k d) ≡ None) → Some y ≡ slice_get (filter_map h xs) 0
+  first_at [] i y l e n = absurd (omega arith)
+  first_at (x ∷ xs) zero y l e n = ap (λ o. slice_get (cons_option o (filter_map h xs)) 0) (sym (e x))
+  first_at (x ∷ xs) (suc i) y l e n = first_at xs i y (omega arith) e (λ k d m. n (suc k) d (omega arith)) ∙ ap (λ o. slice_get (cons_option o (filter_map h xs)) 0) (sym (n 0 x (omega arith)))
 
-  pub breach_miss : (d : Rule) → i < length rs → first_of (drop i rs) ns es ≡ v → None ≡ first_record (get_or rs i d) ns es → first_of (drop (i + 1) rs) ns es ≡ v
-  breach_miss d h inv e = ap (λ o. or_else (get_or rs i d) o (first_of (drop (i + 1) rs) ns es)) e ∙ sym (at_drop_more (λ l. first_of l ns es) rs i d h) ∙ inv
+  -- what `find_map` gives, where the closure computes h of each item
+  pub first_from_runs : {S A F : Type 0} {steps : S → Option A → S → Type 0} {s : S} (v : A → B) (xs : List B) (g : Mut F (A × Unit {0}) (Option C)) (f : F) (r : Option C)
+      → SomeRun steps s (λ p. MatchOption r (IsTrue p.whole × AllItemsGive p g f None) (λ y. (i : ℕ) × (i < p.len) × (p.len ≡ i + 1) × IsFirstToGive p g f (Some y) None i))
+      → EachRunFrom steps s (λ p. ItemsMapTo p v xs)
+      → ((x : A) (o : Option C) (q : F) → Called g f (x, tt) o q → (q ≡ f) × (o ≡ h (v x)))
+      → r ≡ slice_get (filter_map h xs) 0
+  first_from_runs {A = A} {F = F} {steps = steps} v xs g f r w each k = go r w.2
+    where
+      p : Run steps
+      p = w.0
 
-  pub breach_none : length rs ≤ i → first_of (drop i rs) ns es ≡ v → None ≡ v
-  breach_none h inv = sym (at_drop_all (λ l. first_of l ns es) rs i h) ∙ inv
+      it : ItemsMapTo p v xs
+      it = each p p.seen w.1
+
+      keeps : (a : A × Unit {0}) (o : Option C) (q : F) → Called g f a o q → q ≡ f
+      keeps a o q c = (k a.0 o q c).0
+
+      gives : (o : Option C) (y : B) → Item v (λ x. Called g f (x, tt) o f) y → h y ≡ o
+      gives o y i = ap h (sym i.reads) ∙ sym (k i.item o f i.holds).1
+
+      go : (o : Option C) → MatchOption o (IsTrue p.whole × AllItemsGive p g f None) (λ y. (i : ℕ) × (i < p.len) × (p.len ≡ i + 1) × IsFirstToGive p g f (Some y) None i) → o ≡ slice_get (filter_map h xs) 0
+      go None m = nothing xs (λ k d l. gives None (get_or xs k d) (if_some v _ (p.at k) _ (it.2 k d (omega (arith, it.1 m.0))) (m.1 keeps k)))
+      go (Some y) m =
+          let w = m.3 keeps in
+          first_at xs m.0 y (omega (arith, it.0, m.1)) (λ d. gives (Some y) (get_or xs m.0 d) (some_and v _ (p.at m.0) _ (it.2 m.0 d m.1) w.0)) (λ k d l. gives None (get_or xs k d) (some_and v _ (p.at k) _ (it.2 k d (omega (arith, m.1))) (w.1 k l)))

@@ -1,8 +1,6 @@
-pub mod Scans
 pub mod Firsts
 pub mod Lowest
 pub mod Makes
 pub mod Fits
 pub mod Judged
 pub mod Reading
-pub mod Writing

@@ -13,8 +13,9 @@ use Rattle.chart.specs.declared.chart.Chart.{Chart}
 use Rattle.chart.specs.declared.refusal.Refusal.TheVariants.{Malformed, Broken}
 use Rattle.chart.specs.declared.refusal.ReadError.{ReadError}
 use Rattle.chart.specs.declared.refusal.ReadError.TheVariants.{Refused, Memory}
+use Rattle.chart.specs.Refusals.{raised}
 use Rattle.chart.specs.Rules.{Keeps}
-use Rattle.chart.specs.Law.{raw_parts, Judges, Exactly, Lawful, Written, Unambiguous, raised, judged, ruled, accepted, refused}
+use Rattle.chart.specs.Law.{raw_parts, Judges, Exactly, Lawful, Written, Unambiguous, judged, ruled, accepted, refused}
 use Rattle.chart.proofs.Lowest.{keeps, lowest}
 
 module _ (bs : List ℕ) where

@@ -1,5 +1,5 @@
 -- An edge of a chart, and the edge as it stands in the bytes.
-use Rattle.std.specs.Prelude.{◌≡◌, ℕ, Bool, true, not, ◌&&◌, ◌||◌, is_some, Some, None, Option}
+use Rattle.std.specs.Prelude.{ℕ, Bool, not, ◌&&◌, ◌||◌, is_some, Some, None, Option}
 use Rattle.layout.specs.declared.parts.RawEdge.{RawEdge}
 use Rattle.chart.specs.declared.edge.Cause.{Cause}
 use Rattle.chart.specs.declared.edge.Cause.TheVariants.{Plain, Event, After, At}
@@ -38,8 +38,3 @@ timed e = is_some e.after || is_some e.when
 -- an edge with more than one of trigger, after and when
 abbrev pub several : RawEdge → Bool
 several e = (is_some e.trigger && (is_some e.after || is_some e.when)) || (is_some e.after && is_some e.when)
-
--- the edge that stands in the bytes so, unless it has several causes there
-abbrev pub Caused : RawEdge → Option Edge → Type 0
-Caused raw (Some e) = raw_of e ≡ raw
-Caused raw None = several raw ≡ true

@@ -1,5 +1,7 @@
 -- How a chart's parts are judged: rule by rule, record by record.
-use Rattle.std.specs.Prelude.{ℕ, zero, suc, ◌+◌, Bool, cond, List, [], ◌∷◌, Some, None, Option}
+use Rattle.std.specs.Prelude.{ℕ, List, [], ◌∷◌, Option, slice_get}
+use Rattle.std.specs.List.{find, filter_map, range_with_len}
+use Rattle.std.specs.Option.{option_map}
 use Rattle.layout.specs.declared.parts.Node.{Node}
 use Rattle.layout.specs.declared.parts.RawEdge.{RawEdge}
 use Rattle.chart.specs.declared.rules.Rule.{Rule}
@@ -7,26 +9,17 @@ use Rattle.chart.specs.declared.rules.Rule.TheVariants.{StartNoAction, StartNoTa
 use Rattle.chart.specs.declared.rules.Breach.{Breach}
 use Rattle.chart.specs.Rules.{breaks, records}
 
--- the first of n numbers from k on that passes the test
-abbrev pub first_from : (ℕ → Bool) → ℕ → ℕ → Option ℕ
-first_from f zero k = None
-first_from f (suc n) k = cond (f k) (Some k) (first_from f n (k + 1))
-
 -- the first record that breaks the rule
 abbrev pub first_record : Rule → List Node → List RawEdge → Option ℕ
-first_record r ns es = first_from (breaks r ns es) (records r ns es) 0
+first_record r ns es = find (breaks r ns es) (range_with_len 0 (records r ns es))
 
-abbrev pub or_else : Rule → Option ℕ → Option Breach → Option Breach
-or_else r None rest = rest
-or_else r (Some k) rest = Some (record { rule = r; index = k })
-
--- the first rule of the list that is broken, with the first record that breaks it
-abbrev pub first_of : List Rule → List Node → List RawEdge → Option Breach
-first_of [] ns es = None
-first_of (r ∷ rs) ns es = or_else r (first_record r ns es) (first_of rs ns es)
+-- how the parts break the rule, if they do
+abbrev pub breach : List Node → List RawEdge → Rule → Option Breach
+breach ns es r = option_map (λ k. record { rule = r; index = k }) (first_record r ns es)
 
 abbrev pub rules : List Rule
 rules = StartNoAction ∷ StartNoTarget ∷ StartPlain ∷ ActionPlain ∷ OneCause ∷ FewTimed ∷ Leaves ∷ []
 
+-- the first rule that they break
 abbrev pub first_breach : List Node → List RawEdge → Option Breach
-first_breach ns es = first_of rules ns es
+first_breach ns es = slice_get (filter_map (breach ns es) rules) 0

@@ -1,15 +1,14 @@
 -- What making and reading a chart say.
 use Rattle.std.specs.Prelude.{◌≡◌, ℕ, ◌+◌, false, cond, List, map, length, take, Ok, Err, vec_items, Option, Result}
 use Rattle.std.specs.declared.option.Option.TheVariants as option-of
+use Rattle.std.specs.List.{flat_map}
 use Rattle.layout.specs.Reader.{Out, got, bad, Parts}
 use Rattle.layout.specs.Reader as reader
-use Rattle.layout.specs.Layout.{InRange, encode, all, node_bytes, edge_bytes}
+use Rattle.layout.specs.Layout.{InRange, encode, node_bytes, edge_bytes}
 use Rattle.layout.specs.First.{FirstFault}
 use Rattle.layout.specs.Law.{Parted}
 use Rattle.layout.specs.Law as LayoutLaw
 use Rattle.layout.specs.declared.chart.RawChart.{RawChart}
-use Rattle.layout.specs.declared.refusal.ReadError as LayoutErrorType
-use Rattle.layout.specs.declared.refusal.ReadError.TheVariants as LayoutError
 use Rattle.layout.specs.declared.parts.Node.{Node}
 use Rattle.layout.specs.declared.parts.RawEdge.{RawEdge}
 use Rattle.chart.specs.declared.chart.Chart.{Chart}
@@ -44,15 +43,15 @@ Made ns es (Err unfit-of.Memory) = Unit {0}
 
 -- where a record begins: behind the two counts and the records before it
 abbrev pub node_place : List Node → ℕ → ℕ
-node_place ns k = 2 + length (all node_bytes (take k ns))
+node_place ns k = 2 + length (flat_map node_bytes (take k ns))
 
 abbrev pub edge_place : List Node → List RawEdge → ℕ → ℕ
-edge_place ns es k = (2 + length (all node_bytes ns)) + length (all edge_bytes (take k es))
+edge_place ns es k = (2 + length (flat_map node_bytes ns)) + length (flat_map edge_bytes (take k es))
 
 abbrev pub record_place : Rule → List Node → List RawEdge → ℕ → ℕ
 record_place r ns es k = cond (of_nodes r) (node_place ns k) (edge_place ns es k)
 
--- the answer to some bytes
+-- The answer to some bytes. No Result: the laws speak of parts that are accepted and bytes that are refused by these words.
 pub data Verdict : Type 0 where
   accepted : Parts → Verdict
   refused : Refusal → Verdict
@@ -74,15 +73,14 @@ Exactly bs (Ok c) = verdict bs ≡ accepted (parts_of c)
 Exactly bs (Err (Refused e)) = verdict bs ≡ refused e
 Exactly bs (Err Memory) = Unit {0}
 
--- how a failure to read the layout is passed on
-abbrev pub raised : LayoutErrorType.ReadError → ReadError
-raised (LayoutError.Invalid e) = Refused (Malformed e)
-raised LayoutError.Memory = Memory
-
 -- what is known of records that were read: they are in range, and each was handed on as the part of the bytes that it is
 pub record Ready (raw : RawChart) : Type 0 where
   pub in_range : InRange (raw_parts raw)
   pub parted : Parted (Ok raw)
+
+-- why they make no chart
+abbrev pub Misfits : RawChart → Unfit → Type 0
+Misfits raw u = Made (raw_parts raw).nodes (raw_parts raw).edges (Err u)
 
 -- what judging them by the rules says
 abbrev pub Judges : RawChart → Result Chart ReadError → Type 0

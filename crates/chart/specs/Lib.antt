@@ -3,6 +3,5 @@ pub mod Rules
 pub mod Range
 pub mod Judge
 pub mod Refusals
-pub mod Places
 pub mod Law
 pub mod Samples

@@ -1,5 +1,6 @@
 -- The rules of charts, over the nodes and edges as they stand in the bytes.
-use Rattle.std.specs.Prelude.{◌≡◌, ℕ, ◌+◌, ◌<◌, Bool, true, false, cond, not, ◌&&◌, ◌||◌, List, [], ◌∷◌, length, get_or, take, is_some, None, ◌==◌, slice_index_or}
+use Rattle.std.specs.Prelude.{◌≡◌, ℕ, ◌<◌, Bool, true, false, cond, not, ◌&&◌, ◌||◌, List, length, get_or, take, is_some, None, ◌==◌, slice_index_or, count_by}
+use Rattle.std.specs.List.{list_any, enumerate_from}
 use Rattle.layout.specs.Sets.{member}
 use Rattle.layout.specs.declared.parts.Node.{Node}
 use Rattle.layout.specs.declared.parts.RawEdge.{RawEdge}
@@ -21,31 +22,32 @@ rule_number Leaves = 7
 abbrev pub action : List Node → ℕ → Bool
 action ns k = is_some (get_or ns k (record { activity = None })).activity
 
--- whether an action node, counted from k on, is in the set
-abbrev pub action_in : List Node → ℕ → ℕ → Bool
-action_in [] k bits = false
-action_in (n ∷ ns) k bits = (is_some n.activity && member bits k) || action_in ns (k + 1) bits
+-- whether an action node is in the set
+abbrev pub action_in : List Node → ℕ → Bool
+action_in ns bits = list_any (λ n. is_some n.1.activity && member bits n.0) (enumerate_from 0 ns)
 
 -- whether node k is a source of some edge
 abbrev pub sourced : List RawEdge → ℕ → Bool
-sourced [] k = false
-sourced (e ∷ es) k = member e.sources.bits k || sourced es k
+sourced es k = list_any (λ e. member e.sources.bits k) es
 
 -- how many edges are timed
 abbrev pub timed_count : List RawEdge → ℕ
-timed_count [] = 0
-timed_count (e ∷ es) = cond (timed e) 1 0 + timed_count es
+timed_count es = count_by timed es
+
+-- an edge with nothing
+abbrev pub no_edge : RawEdge
+no_edge = record { trigger = None; after = None; when = None; guard = None; send = None; sources = record { bits = 0 }; targets = record { bits = 0 } }
 
 -- edge k, and past the last an edge with nothing
 abbrev pub edge_at : List RawEdge → ℕ → RawEdge
-edge_at es k = slice_index_or es k (record { trigger = None; after = None; when = None; guard = None; send = None; sources = record { bits = 0 }; targets = record { bits = 0 } })
+edge_at es k = slice_index_or es k no_edge
 
 -- whether a record breaks a rule: node k or edge k, whichever the rule speaks of
 abbrev pub breaks : Rule → List Node → List RawEdge → ℕ → Bool
 breaks StartNoAction ns es k = k == 0 && action ns k
 breaks StartNoTarget ns es k = member (edge_at es k).targets.bits 0
 breaks StartPlain ns es k = member (edge_at es k).sources.bits 0 && not (plain (edge_at es k) && (edge_at es k).sources.bits == 1)
-breaks ActionPlain ns es k = action_in ns 0 (edge_at es k).sources.bits && not (plain (edge_at es k))
+breaks ActionPlain ns es k = action_in ns (edge_at es k).sources.bits && not (plain (edge_at es k))
 breaks OneCause ns es k = several (edge_at es k)
 breaks FewTimed ns es k = timed (edge_at es k) && timed_count (take k es) == 16
 breaks Leaves ns es k = (k == 0 || action ns k) && not (sourced es k)

@@ -1,6 +1,6 @@
 // The edges of a chart that exists: each has one cause at most.
-ghost use Rattle.std.specs.Prelude.{◌≡◌};
-ghost use Rattle.chart.specs.Edges.{raw_of, Caused};
+ghost use Rattle.std.specs.Prelude.{◌≡◌, true, MatchResult};
+ghost use Rattle.chart.specs.Edges.{raw_of, several};
 
 use layout::parts::{Guard, NodeSet, RawEdge};
 
@@ -33,19 +33,27 @@ impl Edge {
     pub fn raw(&self) -> RawEdge
         ensures { result ≡ raw_of self.now }
     {
-        let (trigger, after, when) = match self.cause {
+        RawEdge::from(*self)
+    }
+}
+
+impl From<Edge> for RawEdge {
+    ghost from_gives = { λ edge raw. raw ≡ raw_of edge };
+
+    fn from(edge: Edge) -> RawEdge {
+        let Edge {
+            cause,
+            guard,
+            send,
+            sources,
+            targets,
+        } = edge;
+        let (trigger, after, when) = match cause {
             Cause::Plain => (None, None, None),
             Cause::Event(event) => (Some(event), None, None),
             Cause::After(time) => (None, Some(time), None),
             Cause::At(moment) => (None, None, Some(moment)),
         };
-        let Edge {
-            cause: _,
-            guard,
-            send,
-            sources,
-            targets,
-        } = *self;
         RawEdge {
             trigger,
             after,
@@ -58,31 +66,38 @@ impl Edge {
     }
 }
 
-// The edge that stands in the bytes as `raw`; none where that has several causes.
-pub(crate) fn edge_of(raw: &RawEdge) -> Option<Edge>
-    ensures { Caused raw.now result }
-{
-    let cause = match (raw.trigger, raw.after, raw.when) {
-        (None, None, None) => Cause::Plain,
-        (Some(event), None, None) => Cause::Event(event),
-        (None, Some(time), None) => Cause::After(time),
-        (None, None, Some(moment)) => Cause::At(moment),
-        _ => return None,
-    };
-    let RawEdge {
-        trigger: _,
-        after: _,
-        when: _,
-        guard,
-        send,
-        sources,
-        targets,
-    } = *raw;
-    Some(Edge {
-        cause,
-        guard,
-        send,
-        sources,
-        targets,
-    })
+// An edge that has more than one cause in the bytes.
+#[derive(Clone, Copy)]
+pub struct SeveralCauses;
+
+impl TryFrom<RawEdge> for Edge {
+    type Error = SeveralCauses;
+
+    ghost try_from_gives = { λ raw result. MatchResult result (λ edge. raw_of edge ≡ raw) (λ _. several raw ≡ true) };
+
+    fn try_from(raw: RawEdge) -> Result<Edge, SeveralCauses> {
+        let RawEdge {
+            trigger,
+            after,
+            when,
+            guard,
+            send,
+            sources,
+            targets,
+        } = raw;
+        let cause = match (trigger, after, when) {
+            (None, None, None) => Cause::Plain,
+            (Some(event), None, None) => Cause::Event(event),
+            (None, Some(time), None) => Cause::After(time),
+            (None, None, Some(moment)) => Cause::At(moment),
+            _ => return Err(SeveralCauses),
+        };
+        Ok(Edge {
+            cause,
+            guard,
+            send,
+            sources,
+            targets,
+        })
+    }
 }

@@ -4,6 +4,7 @@
 mod breaks;
 pub mod chart;
 pub mod edge;
+mod parts;
 mod range;
 pub mod read;
 pub mod refusal;

@@ -1,8 +1,9 @@
 // Whether parts of a chart are in range.
-ghost use Rattle.std.specs.Prelude.{◌≡◌, ◌≤◌, length};
-ghost use Rattle.chart.specs.Range.{within as within_range, set_fits, condition_fits, guard_fits, edge_fits, node_fits, counted as counted_right, every, fits};
+ghost use Rattle.std.specs.Prelude.{◌≡◌};
+ghost use Rattle.std.specs.List.{list_all};
+ghost use Rattle.chart.specs.Range.{absent_or, within as within_range, node_fits, edge_fits, guard_fits, counted as counted_right, fits};
 
-use layout::parts::{Condition, Guard, Node, NodeSet, RawEdge};
+use layout::parts::{Guard, Node, RawEdge};
 
 // Whether there are as many nodes and edges as a chart may have, and each is in range.
 pub(crate) fn in_range(nodes: &[Node], edges: &[RawEdge]) -> bool
@@ -14,107 +15,50 @@ pub(crate) fn in_range(nodes: &[Node], edges: &[RawEdge]) -> bool
 fn counted(nodes: &[Node], edges: &[RawEdge]) -> bool
     ensures { result ≡ counted_right nodes.now edges.now }
 {
-    let node_count = nodes.len();
-    let edge_count = edges.len();
-    2 <= node_count && node_count <= 32 && 1 <= edge_count && edge_count <= 64
+    (2..=32).contains(&nodes.len()) && (1..=64).contains(&edges.len())
 }
 
 fn nodes_fit(nodes: &[Node]) -> bool
-    ensures { result ≡ every node_fits nodes.now }
+    ensures { result ≡ list_all node_fits nodes.now }
 {
-    for node in nodes {
-        if !small(0, 63, node.activity) {
-            return false;
-        }
-    }
-    true
+    nodes
+        .iter()
+        .all(|node| within(0, 63, node.activity.map(u32::from)))
 }
 
 fn edges_fit(nodes: usize, edges: &[RawEdge]) -> bool
-    requires { nodes ≤ 32 }
-    ensures { result ≡ every (edge_fits nodes) edges.now }
+    ensures { result ≡ list_all (edge_fits nodes) edges.now }
 {
-    for edge in edges {
-        if !edge_fits(nodes, edge) {
-            return false;
-        }
-    }
-    true
+    edges.iter().all(|edge| edge_fits(nodes, edge))
 }
 
+// Whether the edge is in range in a chart of so many nodes.
 fn edge_fits(nodes: usize, edge: &RawEdge) -> bool
-    requires { nodes ≤ 32 }
     ensures { result ≡ edge_fits nodes edge.now }
 {
-    small(0, 31, edge.trigger)
-        && large(1, 100_000_000, edge.after)
-        && large(0, 4_000_000_000, edge.when)
+    within(0, 31, edge.trigger.map(u32::from))
+        && within(1, 100_000_000, edge.after)
+        && within(0, 4_000_000_000, edge.when)
         && guard_fits(nodes, edge.guard)
-        && small(0, 31, edge.send)
-        && set_fits(nodes, edge.sources)
-        && set_fits(nodes, edge.targets)
+        && within(0, 31, edge.send.map(u32::from))
+        && edge.sources.fits(nodes)
+        && edge.targets.fits(nodes)
 }
 
-fn small(low: u8, high: u8, value: Option<u8>) -> bool
-    ensures { result ≡ within_range low high value }
+// Whether the number is absent, or from `low` to `high`.
+fn within(low: u32, high: u32, number: Option<u32>) -> bool
+    ensures { result ≡ within_range low high number }
 {
-    match value {
-        Some(v) => low <= v && v <= high,
-        None => true,
-    }
-}
-
-fn large(low: u32, high: u32, value: Option<u32>) -> bool
-    ensures { result ≡ within_range low high value }
-{
-    match value {
-        Some(v) => low <= v && v <= high,
-        None => true,
-    }
-}
-
-fn set_fits(nodes: usize, set: NodeSet) -> bool
-    requires { nodes ≤ 32 }
-    ensures { result ≡ set_fits nodes set }
-{
-    let count = set.bits.count_ones();
-    0 < count && count <= 4 && (set.bits as u64) >> nodes == 0
+    number.is_none_or(|number| (low..=high).contains(&number))
 }
 
 fn guard_fits(nodes: usize, guard: Option<Guard>) -> bool
-    ensures { result ≡ guard_fits nodes guard }
+    ensures { result ≡ absent_or (guard_fits nodes) guard }
 {
-    match guard {
-        None => true,
-        Some(Guard::One(a)) => condition_fits(nodes, a),
-        Some(Guard::Two(a, b)) => condition_fits(nodes, a) && condition_fits(nodes, b),
-        Some(Guard::Three(a, b, c)) => condition_fits(nodes, a)
-            && condition_fits(nodes, b)
-            && condition_fits(nodes, c),
-        Some(Guard::Four(a, b, c, d)) => condition_fits(nodes, a)
-            && condition_fits(nodes, b)
-            && condition_fits(nodes, c)
-            && condition_fits(nodes, d),
-    }
-}
-
-fn condition_fits(nodes: usize, condition: Condition) -> bool
-    ensures { result ≡ condition_fits nodes condition }
-{
-    match condition {
-        Condition::Equal {
-            attribute,
-            constant: _,
-        } => attribute <= 15,
-        Condition::AtLeast {
-            attribute,
-            constant: _,
-        } => attribute <= 15,
-        Condition::LessThan {
-            attribute,
-            constant: _,
-        } => attribute <= 15,
-        Condition::Absent { attribute } => attribute <= 15,
-        Condition::HoldsToken { node } => (node as usize) < nodes,
-    }
+    guard.is_none_or(|guard| match guard {
+        Guard::One(a) => a.fits(nodes),
+        Guard::Two(a, b) => a.fits(nodes) && b.fits(nodes),
+        Guard::Three(a, b, c) => a.fits(nodes) && b.fits(nodes) && c.fits(nodes),
+        Guard::Four(a, b, c, d) => a.fits(nodes) && b.fits(nodes) && c.fits(nodes) && d.fits(nodes),
+    })
 }

@@ -1,8 +1,11 @@
 // Why bytes or parts make no chart.
 ghost use Rattle.std.specs.Prelude.{◌≡◌};
-ghost use Rattle.chart.specs.Refusals.{number_of, place_of, rule_of};
+ghost use Rattle.chart.specs.Refusals.{number_of, place_of, rule_of, raised};
+ghost use Rattle.chart.specs.declared.refusal.ReadError.TheVariants.{Memory};
+ghost use Rattle.chart.specs.declared.refusal.Unfit.TheVariants as unfit_of;
 
 use super::rules::{Breach, Rule};
+use std::alloc::AllocError;
 
 // Why bytes are refused as a chart.
 #[derive(Clone, Copy)]
@@ -14,13 +17,14 @@ pub enum Refusal {
 }
 
 impl Refusal {
-    // The number by which the refusal is reported, 11 to 16.
+    // The number by which the refusal is reported, 11 to 16. A `match`: `as` gives no number of an enum whose variants have
+    // fields.
     pub fn number(self) -> u8
         ensures { result ≡ number_of self }
     {
         match self {
             Refusal::Malformed(refusal) => refusal.fault.number(),
-            Refusal::Broken { rule: _, place: _ } => 16,
+            Refusal::Broken { .. } => 16,
         }
     }
 
@@ -30,7 +34,7 @@ impl Refusal {
     {
         match self {
             Refusal::Malformed(refusal) => refusal.place,
-            Refusal::Broken { rule: _, place } => place,
+            Refusal::Broken { place, .. } => place,
         }
     }
 
@@ -40,7 +44,7 @@ impl Refusal {
     {
         match self {
             Refusal::Malformed(_) => None,
-            Refusal::Broken { rule, place: _ } => Some(rule),
+            Refusal::Broken { rule, .. } => Some(rule),
         }
     }
 }
@@ -54,6 +58,27 @@ pub enum ReadError {
     Memory,
 }
 
+impl From<layout::refusal::ReadError> for ReadError {
+    ghost from_gives = { λ e r. r ≡ raised e };
+
+    fn from(error: layout::refusal::ReadError) -> ReadError {
+        match error {
+            layout::refusal::ReadError::Invalid(refusal) => {
+                ReadError::Refused(Refusal::Malformed(refusal))
+            }
+            layout::refusal::ReadError::Memory => ReadError::Memory,
+        }
+    }
+}
+
+impl From<AllocError> for ReadError {
+    ghost from_gives = { λ _ r. r ≡ Memory };
+
+    fn from(_e: AllocError) -> ReadError {
+        ReadError::Memory
+    }
+}
+
 // What making a chart from parts can end with in place of the chart.
 #[derive(Clone, Copy)]
 pub enum Unfit {
@@ -63,4 +88,12 @@ pub enum Unfit {
     Broken(Breach),
     // there is no memory for the chart
     Memory,
+}
+
+impl From<AllocError> for Unfit {
+    ghost from_gives = { λ _ r. r ≡ unfit_of.Memory };
+
+    fn from(_e: AllocError) -> Unfit {
+        Unfit::Memory
+    }
 }

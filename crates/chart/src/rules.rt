@@ -7,19 +7,19 @@ ghost use Rattle.chart.specs.Rules.{rule_number, of_nodes};
 #[derive(Clone, Copy)]
 pub enum Rule {
     // node 0 has no activity
-    StartNoAction,
+    StartNoAction = 1,
     // no edge has node 0 as a target
-    StartNoTarget,
+    StartNoTarget = 2,
     // an edge with source 0 is plain and has no other source
-    StartPlain,
+    StartPlain = 3,
     // an edge with an action node among its sources is plain
-    ActionPlain,
+    ActionPlain = 4,
     // an edge has at most one cause
-    OneCause,
+    OneCause = 5,
     // at most 16 edges are timed
-    FewTimed,
+    FewTimed = 6,
     // node 0 and each action node is a source of some edge
-    Leaves,
+    Leaves = 7,
 }
 
 impl Rule {
@@ -27,25 +27,14 @@ impl Rule {
     pub fn number(self) -> u8
         ensures { result ≡ rule_number self }
     {
-        match self {
-            Rule::StartNoAction => 1,
-            Rule::StartNoTarget => 2,
-            Rule::StartPlain => 3,
-            Rule::ActionPlain => 4,
-            Rule::OneCause => 5,
-            Rule::FewTimed => 6,
-            Rule::Leaves => 7,
-        }
+        self as u8
     }
-}
 
-// Whether the rule speaks of nodes, and not of edges.
-pub(crate) fn of_nodes(rule: Rule) -> bool
-    ensures { result ≡ of_nodes rule }
-{
-    match rule {
-        Rule::StartNoAction | Rule::Leaves => true,
-        _ => false,
+    // Whether the rule speaks of nodes, and not of edges.
+    pub(crate) fn of_nodes(self) -> bool
+        ensures { result ≡ of_nodes self }
+    {
+        matches!(self, Rule::StartNoAction | Rule::Leaves)
     }
 }
 

@@ -1,5 +1,6 @@
 -- The words for the parts of a chart.
-use Rattle.std.specs.Prelude.{ℕ, zero, suc, ◌+◌, Bool, true, false, cond, ◌&&◌, List, [], ◌∷◌, ◌++◌, map, length, Some, None, codes, decimal, Option, ◌==◌, nat_lt}
+use Rattle.std.specs.Prelude.{ℕ, Bool, true, false, ◌&&◌, List, [], ◌++◌, map, length, Some, None, codes, decimal, Option, nat_lt}
+use Rattle.std.specs.List.{filter, flat_map, join_by, enumerate_from, range_with_len}
 use Rattle.layout.specs.Sets.{member}
 use Rattle.layout.specs.declared.parts.Node.{Node}
 use Rattle.layout.specs.declared.parts.Condition.{Condition}
@@ -12,7 +13,7 @@ use Rattle.chart.specs.declared.edge.Edge.{Edge}
 use Rattle.chart.specs.declared.refusal.Refusal.{Refusal}
 use Rattle.chart.specs.declared.rules.Rule.{Rule}
 use Rattle.chart.specs.Edges.{raw_of}
-use Rattle.chart.specs.Rules.{sourced, rule_number}
+use Rattle.chart.specs.Rules.{rule_number, sourced}
 use Rattle.chart.specs.Refusals.{number_of, place_of, rule_of}
 use Rattle.hex_text.specs.declared.text.Position.{Position}
 use Rattle.hex_text.specs.declared.text.TextError.{TextError}
@@ -72,38 +73,32 @@ abbrev pub send_part : Option ℕ → List ℕ
 send_part None = []
 send_part (Some e) = codes "; sends event " ++ decimal e
 
--- one more node in a list of nodes
-abbrev pub listed : List ℕ → ℕ → List ℕ
-listed nodes k = cond (length nodes == 0) (decimal k) (nodes ++ (codes ", " ++ decimal k))
-
-abbrev pub listed_if : Bool → List ℕ → ℕ → List ℕ
-listed_if true nodes k = listed nodes k
-listed_if false nodes k = nodes
-
 -- the nodes of a set that are below a number, in rising order
-unfoldable pub nodes_below : ℕ → ℕ → List ℕ
-nodes_below bits zero = []
-nodes_below bits (suc k) = listed_if (member bits k) (nodes_below bits k) k
+unfoldable pub members_below : ℕ → ℕ → List ℕ
+members_below bits n = filter (λ k. member bits k) (range_with_len 0 n)
+
+-- the nodes of a set
+abbrev pub set_words : ℕ → List ℕ
+set_words bits = join_by decimal (codes ", ") (members_below bits 32)
 
 abbrev pub edge_line : ℕ → Edge → List ℕ
 edge_line k e =
-    codes "edge " ++ (decimal k ++ (codes ": " ++ (cause_words e.cause ++ (guard_part e.guard ++ (codes "; from " ++ (nodes_below e.sources.bits 32
-    ++ (codes "; to " ++ (nodes_below e.targets.bits 32 ++ (send_part e.send ++ codes "\n")))))))))
+    codes "edge " ++ (decimal k ++ (codes ": " ++ (cause_words e.cause ++ (guard_part e.guard ++ (codes "; from " ++ (set_words e.sources.bits
+    ++ (codes "; to " ++ (set_words e.targets.bits ++ (send_part e.send ++ codes "\n")))))))))
 
--- the lines of the nodes and of the edges, numbered from k on
-abbrev pub node_lines : List Edge → ℕ → List Node → List ℕ
-node_lines es k [] = []
-node_lines es k (n ∷ ns) = node_line k n es ++ node_lines es (k + 1) ns
+-- a line for each, in order, numbered from k on
+abbrev pub lines : {A : Type 0} → (ℕ × A → List ℕ) → ℕ → List A → List ℕ
+lines line k xs = flat_map line (enumerate_from k xs)
 
-abbrev pub edge_lines : ℕ → List Edge → List ℕ
-edge_lines k [] = []
-edge_lines k (e ∷ es) = edge_line k e ++ edge_lines (k + 1) es
+-- the lines of the nodes, and of the edges
+abbrev pub node_lines : List Edge → List Node → List ℕ
+node_lines es ns = lines (λ n. node_line n.0 n.1 es) 0 ns
 
-abbrev pub head_line : ℕ → ℕ → List ℕ
-head_line n m = codes "chart: " ++ (decimal n ++ (codes " nodes, " ++ (decimal m ++ codes " edges\n")))
+abbrev pub edge_lines : List Edge → List ℕ
+edge_lines es = lines (λ e. edge_line e.0 e.1) 0 es
 
 abbrev pub description : List Node → List Edge → List ℕ
-description ns es = (head_line (length ns) (length es) ++ node_lines es 0 ns) ++ edge_lines 0 es
+description ns es = codes "chart: " ++ (decimal (length ns) ++ (codes " nodes, " ++ (decimal (length es) ++ (codes " edges\n" ++ (node_lines es ns ++ edge_lines es)))))
 
 -- why bytes are refused as a chart
 abbrev pub rule_part : Option Rule → List ℕ

@@ -1,50 +1,50 @@
 // The words for conditions and guards.
-ghost use Rattle.std.specs.Prelude.{◌≡◌, IfOk, string_bytes};
-ghost use Rattle.chart_text.specs.Words.{condition_words, guard_words, and_words};
+ghost use Rattle.std.specs.Prelude.{Some};
+ghost use Rattle.chart_text.specs.Words.{condition_words, guard_words};
 
+use super::Words;
 use layout::parts::{Condition, Guard};
-use std::alloc::{AllocError, Global};
+use std::fmt;
 
-fn condition_words(heap: Global, condition: Condition) -> Result<String, AllocError>
-    ensures { IfOk result (λ s. string_bytes s ≡ condition_words condition) }
-{
-    match condition {
-        Condition::Equal {
-            attribute,
-            constant,
-        } => format!(in heap; "attribute {attribute} is {constant}"),
-        Condition::AtLeast {
-            attribute,
-            constant,
-        } => format!(in heap; "attribute {attribute} is at least {constant}"),
-        Condition::LessThan {
-            attribute,
-            constant,
-        } => format!(in heap; "attribute {attribute} is below {constant}"),
-        Condition::Absent { attribute } => format!(in heap; "attribute {attribute} is absent"),
-        Condition::HoldsToken { node } => format!(in heap; "node {node} holds a token"),
+impl fmt::Display for Words<Condition> {
+    ghost output = { λ w. Some (condition_words w.0) };
+
+    fn fmt<W: fmt::Write>(&self, f: &mut fmt::Formatter<W>) -> fmt::Result {
+        match self.0 {
+            Condition::Equal {
+                attribute,
+                constant,
+            } => write!(f, "attribute {attribute} is {constant}"),
+            Condition::AtLeast {
+                attribute,
+                constant,
+            } => write!(f, "attribute {attribute} is at least {constant}"),
+            Condition::LessThan {
+                attribute,
+                constant,
+            } => write!(f, "attribute {attribute} is below {constant}"),
+            Condition::Absent { attribute } => write!(f, "attribute {attribute} is absent"),
+            Condition::HoldsToken { node } => write!(f, "node {node} holds a token"),
+        }
     }
 }
 
-// One more condition that must hold.
-fn and_words(heap: Global, front: String, condition: Condition) -> Result<String, AllocError>
-    ensures { IfOk result (λ s. string_bytes s ≡ and_words (string_bytes front) condition) }
-{
-    let last = condition_words(heap, condition)?;
-    format!(in heap; "{front} and {last}")
-}
+impl fmt::Display for Words<Guard> {
+    ghost output = { λ w. Some (guard_words w.0) };
 
-pub(crate) fn guard_words(heap: Global, guard: Guard) -> Result<String, AllocError>
-    ensures { IfOk result (λ s. string_bytes s ≡ guard_words guard) }
-{
-    match guard {
-        Guard::One(a) => condition_words(heap, a),
-        Guard::Two(a, b) => and_words(heap, condition_words(heap, a)?, b),
-        Guard::Three(a, b, c) => and_words(heap, and_words(heap, condition_words(heap, a)?, b)?, c),
-        Guard::Four(a, b, c, d) => and_words(
-            heap,
-            and_words(heap, and_words(heap, condition_words(heap, a)?, b)?, c)?,
-            d,
-        ),
+    fn fmt<W: fmt::Write>(&self, f: &mut fmt::Formatter<W>) -> fmt::Result {
+        match self.0 {
+            Guard::One(a) => write!(f, "{}", Words(a)),
+            Guard::Two(a, b) => write!(f, "{} and {}", Words(a), Words(b)),
+            Guard::Three(a, b, c) => write!(f, "{} and {} and {}", Words(a), Words(b), Words(c)),
+            Guard::Four(a, b, c, d) => write!(
+                f,
+                "{} and {} and {} and {}",
+                Words(a),
+                Words(b),
+                Words(c),
+                Words(d)
+            ),
+        }
     }
 }

@@ -1,36 +1,52 @@
 // A whole chart in words.
-ghost use Rattle.std.specs.Prelude.{◌≡◌, ◌++◌, IfOk, string_bytes, OnOk};
+ghost use Rattle.std.specs.Prelude.{◌≡◌, IfOk, Some, string_bytes};
 ghost use Rattle.chart_text.specs.Words.{node_lines, edge_lines, description};
 
-use super::edges::edge_line;
-use super::kinds::node_line;
+use super::edges::EdgeLine;
+use super::kinds::NodeLine;
 use chart::edge::Edge;
 use layout::parts::Node;
 use std::alloc::{AllocError, Global};
+use std::fmt;
 
-fn add_nodes(
-    heap: Global,
-    out: &mut String,
-    nodes: &[Node],
-    edges: &[Edge],
-) -> Result<(), AllocError>
-    ensures { OnOk result (string_bytes out.new ≡ string_bytes out.old ++ node_lines edges.now 0 nodes.now) }
-{
-    for (number, node) in nodes.iter().enumerate() {
-        let line = node_line(heap, number, node, edges)?;
-        out.push_str(line.as_str())?;
-    }
-    Ok(())
+// A line for each node. The lines of edges are another type, since the line of a node looks at the edges too.
+#[derive(Clone, Copy)]
+struct NodeLines<'a> {
+    nodes: &'a [Node],
+    edges: &'a [Edge],
 }
 
-fn add_edges(heap: Global, out: &mut String, edges: &[Edge]) -> Result<(), AllocError>
-    ensures { OnOk result (string_bytes out.new ≡ string_bytes out.old ++ edge_lines 0 edges.now) }
-{
-    for (number, edge) in edges.iter().enumerate() {
-        let line = edge_line(heap, number, edge)?;
-        out.push_str(line.as_str())?;
+impl fmt::Display for NodeLines<'_> {
+    ghost output = { λ l. Some (node_lines l.edges.now l.nodes.now) };
+
+    fn fmt<W: fmt::Write>(&self, f: &mut fmt::Formatter<W>) -> fmt::Result {
+        let edges = self.edges;
+        for (number, node) in self.nodes.iter().enumerate() {
+            let line = NodeLine {
+                number,
+                node,
+                edges,
+            };
+            write!(f, "{line}")?;
+        }
+        Ok(())
     }
-    Ok(())
+}
+
+// A line for each edge.
+#[derive(Clone, Copy)]
+struct EdgeLines<'a>(&'a [Edge]);
+
+impl fmt::Display for EdgeLines<'_> {
+    ghost output = { λ l. Some (edge_lines l.0.now) };
+
+    fn fmt<W: fmt::Write>(&self, f: &mut fmt::Formatter<W>) -> fmt::Result {
+        for (number, edge) in self.0.iter().enumerate() {
+            let line = EdgeLine(number, edge);
+            write!(f, "{line}")?;
+        }
+        Ok(())
+    }
 }
 
 // A chart in words: how many nodes and edges it has, each node with its kind, and each edge.
@@ -39,8 +55,7 @@ pub fn describe(heap: Global, nodes: &[Node], edges: &[Edge]) -> Result<String, 
 {
     let node_count = nodes.len();
     let edge_count = edges.len();
-    let mut out = format!(in heap; "chart: {node_count} nodes, {edge_count} edges\n")?;
-    add_nodes(heap, &mut out, nodes, edges)?;
-    add_edges(heap, &mut out, edges)?;
-    Ok(out)
+    let node_lines = NodeLines { nodes, edges };
+    let edge_lines = EdgeLines(edges);
+    format!(in heap; "chart: {node_count} nodes, {edge_count} edges\n{node_lines}{edge_lines}")
 }

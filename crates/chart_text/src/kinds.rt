@@ -1,12 +1,12 @@
 // The kinds of nodes.
-ghost use Rattle.std.specs.Prelude.{◌≡◌, map, IfOk, string_bytes};
+ghost use Rattle.std.specs.Prelude.{◌≡◌, Some, map};
 ghost use Rattle.chart.specs.Edges.{raw_of};
 ghost use Rattle.chart.specs.Rules.{sourced};
 ghost use Rattle.chart_text.specs.Words.{leaves, kind_at, kind_words, node_line};
 
 use chart::edge::Edge;
 use layout::parts::Node;
-use std::alloc::{AllocError, Global};
+use std::fmt;
 
 // What a node is for.
 #[derive(Clone, Copy)]
@@ -19,16 +19,23 @@ pub enum Kind {
     Final,
 }
 
-// Whether the node is a source of some edge.
+impl fmt::Display for Kind {
+    ghost output = { λ k. Some (kind_words k) };
+
+    fn fmt<W: fmt::Write>(&self, f: &mut fmt::Formatter<W>) -> fmt::Result {
+        match self {
+            Kind::Action(activity) => write!(f, "action, activity {activity}"),
+            Kind::Wait => write!(f, "wait"),
+            Kind::Final => write!(f, "final"),
+        }
+    }
+}
+
+// Whether the node is a source of some edge. The chart's own test for it goes over the edges as they stand in the bytes.
 fn is_source(edges: &[Edge], node: u8) -> bool
     ensures { result ≡ sourced (map raw_of edges.now) node }
 {
-    for edge in edges {
-        if edge.sources.has(node) {
-            return true;
-        }
-    }
-    false
+    edges.iter().any(|edge| edge.sources.has(node))
 }
 
 // Whether some edge leaves the node with this number. No set has a node above 31.
@@ -49,25 +56,20 @@ pub fn kind_of(node: &Node, number: usize, edges: &[Edge]) -> Kind
     }
 }
 
-fn kind_words(heap: Global, kind: Kind) -> Result<String, AllocError>
-    ensures { IfOk result (λ s. string_bytes s ≡ kind_words kind) }
-{
-    match kind {
-        Kind::Action(activity) => format!(in heap; "action, activity {activity}"),
-        Kind::Wait => String::from_str(heap, "wait"),
-        Kind::Final => String::from_str(heap, "final"),
-    }
+// The line for a node among edges, with its number.
+#[derive(Clone, Copy)]
+pub(crate) struct NodeLine<'a> {
+    pub(crate) number: usize,
+    pub(crate) node: &'a Node,
+    pub(crate) edges: &'a [Edge],
 }
 
-// The line for the node with this number.
-pub(crate) fn node_line(
-    heap: Global,
-    number: usize,
-    node: &Node,
-    edges: &[Edge],
-) -> Result<String, AllocError>
-    ensures { IfOk result (λ s. string_bytes s ≡ node_line number node.now edges.now) }
-{
-    let kind = kind_words(heap, kind_of(node, number, edges))?;
-    format!(in heap; "node {number}: {kind}\n")
+impl fmt::Display for NodeLine<'_> {
+    ghost output = { λ l. Some (node_line l.number l.node.now l.edges.now) };
+
+    fn fmt<W: fmt::Write>(&self, f: &mut fmt::Formatter<W>) -> fmt::Result {
+        let number = self.number;
+        let kind = kind_of(self.node, number, self.edges);
+        writeln!(f, "node {number}: {kind}")
+    }
 }

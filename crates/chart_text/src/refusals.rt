@@ -1,80 +1,75 @@
 // The words for refusals and errors.
-ghost use Rattle.std.specs.Prelude.{◌≡◌, IfOk, string_bytes};
-ghost use Rattle.chart_text.specs.Words.{rule_part, refused_words, refusal_words, position_words, wrong_at, error_words};
+ghost use Rattle.std.specs.Prelude.{◌≡◌, IfOk, Some, string_bytes};
+ghost use Rattle.chart_text.specs.Words.{refusal_words, position_words, error_words};
 
+use super::Words;
 use chart::refusal::Refusal;
-use chart::rules::Rule;
 use hex_text::text::{Position, TextError};
 use std::alloc::{AllocError, Global};
+use std::fmt;
 
-fn rule_part(heap: Global, rule: Option<Rule>) -> Result<String, AllocError>
-    ensures { IfOk result (λ s. string_bytes s ≡ rule_part rule) }
-{
-    match rule {
-        Some(rule) => {
-            let number = rule.number();
-            format!(in heap; " rule {number}")
+impl fmt::Display for Words<Refusal> {
+    ghost output = { λ w. Some (refusal_words w.0) };
+
+    fn fmt<W: fmt::Write>(&self, f: &mut fmt::Formatter<W>) -> fmt::Result {
+        let refusal = self.0;
+        write!(f, "refused {}", refusal.number())?;
+        if let Some(rule) = refusal.rule() {
+            write!(f, " rule {}", rule.number())?;
         }
-        None => Ok(String::new(heap)),
+        write!(f, " at {}", refusal.place())
     }
-}
-
-fn refused_words(
-    heap: Global,
-    number: u8,
-    rule: Option<Rule>,
-    place: usize,
-) -> Result<String, AllocError>
-    ensures { IfOk result (λ s. string_bytes s ≡ refused_words number rule place) }
-{
-    let rule = rule_part(heap, rule)?;
-    format!(in heap; "refused {number}{rule} at {place}")
 }
 
 // Why bytes are refused as a chart: the number, the rule if one is broken, and the byte.
 pub fn refusal_words(heap: Global, refusal: Refusal) -> Result<String, AllocError>
     ensures { IfOk result (λ s. string_bytes s ≡ refusal_words refusal) }
 {
-    refused_words(heap, refusal.number(), refusal.rule(), refusal.place())
+    Words(refusal).to_string(heap)
+}
+
+impl fmt::Display for Words<Option<Position>> {
+    ghost output = { λ w. Some (position_words w.0) };
+
+    fn fmt<W: fmt::Write>(&self, f: &mut fmt::Formatter<W>) -> fmt::Result {
+        match self.0 {
+            Some(position) => write!(f, "line {}, column {}", position.line, position.column),
+            None => write!(f, "the end of the file"),
+        }
+    }
 }
 
 // Where in a file a byte stands; a byte that the file does not have is at its end.
 pub fn position_words(heap: Global, position: Option<Position>) -> Result<String, AllocError>
     ensures { IfOk result (λ s. string_bytes s ≡ position_words position) }
 {
-    match position {
-        Some(position) => {
-            let line = position.line;
-            let column = position.column;
-            format!(in heap; "line {line}, column {column}")
-        }
-        None => String::from_str(heap, "the end of the file"),
-    }
+    Words(position).to_string(heap)
 }
 
-// What is wrong at a position.
-fn wrong_at(heap: Global, position: Position, words: &str) -> Result<String, AllocError>
-    ensures { IfOk result (λ s. string_bytes s ≡ wrong_at position words.now) }
-{
-    let place = position_words(heap, Some(position))?;
-    format!(in heap; "{place}: {words}")
+impl fmt::Display for Words<TextError> {
+    ghost output = { λ w. Some (error_words w.0) };
+
+    fn fmt<W: fmt::Write>(&self, f: &mut fmt::Formatter<W>) -> fmt::Result {
+        match self.0 {
+            TextError::Stray(position) => {
+                let position = Words(Some(position));
+                write!(
+                    f,
+                    "{position}: no hexadecimal digit, white space or comment"
+                )
+            }
+            TextError::Lone(position) => {
+                let position = Words(Some(position));
+                write!(f, "{position}: a digit without a second one right after it")
+            }
+            TextError::Memory => write!(f, "out of memory"),
+        }
+    }
 }
 
 // What is wrong with a text that should be bytes.
 pub fn error_words(heap: Global, error: TextError) -> Result<String, AllocError>
     ensures { IfOk result (λ s. string_bytes s ≡ error_words error) }
 {
-    match error {
-        TextError::Stray(position) => wrong_at(
-            heap,
-            position,
-            "no hexadecimal digit, white space or comment",
-        ),
-        TextError::Lone(position) => wrong_at(
-            heap,
-            position,
-            "a digit without a second one right after it",
-        ),
-        TextError::Memory => String::from_str(heap, "out of memory"),
-    }
+    Words(error).to_string(heap)
 }

@@ -1,16 +1,11 @@
 -- What writing does.
-use Rattle.std.specs.Prelude.{◌≡◌, ℕ, ◌<◌, ◌⊎◌, List, ◌++◌, length, IfOk, Ok, Err, vec_items, Result, Vec}
+use Rattle.std.specs.Prelude.{◌≡◌, ℕ, ◌<◌, ◌⊎◌, List, length, Ok, Err, vec_items, Result, Vec}
 use Rattle.std.specs.declared.alloc.Global.{Global}
-use Rattle.std.specs.declared.alloc.AllocError.{AllocError}
 use Rattle.layout.specs.declared.parts.Node.{Node}
 use Rattle.layout.specs.declared.parts.RawEdge.{RawEdge}
 use Rattle.encoder.specs.declared.WriteError.{WriteError}
 use Rattle.encoder.specs.declared.WriteError.TheVariants.{TooMany, Memory}
 use Rattle.layout.specs.Layout.{encode}
-
--- where writing came to its end, the bytes bs stand behind those in v, which gave w
-pub record Appends (bs v w : List ℕ) (r : Result (Unit {0}) AllocError) : Type 0 where
-  pub written : IfOk r (λ _. w ≡ v ++ bs)
 
 -- the bytes are the chart's; or a byte does not count its nodes or its edges; or there was no memory
 abbrev pub Writes : List Node → List RawEdge → Result (Vec ℕ Global) WriteError → Type 0

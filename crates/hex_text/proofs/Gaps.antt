@@ -1,5 +1,5 @@
 -- A white space or a comment between two bytes may be left out.
-use Rattle.std.proofs.Common.{◌≡◌, ℕ, ◌+◌, ◌*◌, Bool, true, false, cond, not, ◌&&◌, eqb, ◌⊎◌, List, [], ◌∷◌, ◌++◌, Ok, Err, Option, Result, sym, refl, ap, ◌∙◌, subst, ⊎_elim}
+use Rattle.std.proofs.Common.{◌≡◌, ℕ, ◌+◌, ◌*◌, Bool, true, false, cond, not, ◌&&◌, eqb, ◌⊎◌, List, [], ◌∷◌, ◌++◌, Some, None, Ok, Err, Option, Result, sym, refl, ap, ◌∙◌, subst, ⊎_elim}
 use Rattle.std.specs.Option.{option_map}
 use Rattle.std.specs.Result.{result_ok}
 use Rattle.hex_text.specs.declared.text.TextError.{TextError}
@@ -7,10 +7,7 @@ use Rattle.hex_text.specs.declared.reader.Sign.{Sign}
 use Rattle.hex_text.specs.declared.reader.Sign.TheVariants.{Digit, Space, Hash, Other}
 use Rattle.hex_text.specs.declared.reader.State.{State}
 use Rattle.hex_text.specs.declared.reader.State.TheVariants.{Between, Half, Comment}
-use Rattle.hex_text.specs.declared.reader.Reader.{Reader}
-use Rattle.hex_text.specs.declared.reader.Step.{Step}
-use Rattle.hex_text.specs.declared.reader.Step.TheVariants.{Goes, Gives, Stops}
-use Rattle.hex_text.specs.Reader.{sign, past, step_by, step}
+use Rattle.hex_text.specs.Reader.{Reader, Step, sign, here, past, step_by, step}
 use Rattle.hex_text.specs.Meaning.{Scan, finish, onward, scan, start, before, said, meaning}
 use Rattle.hex_text.specs.Laws.{idle, ahead, settled, one_line, Gap, Loose}
 
@@ -52,7 +49,7 @@ comment_same : (b : Bool) → Same (cond b Between Comment) (cond b Between Comm
 comment_same true = tt
 comment_same false = tt
 
-same_step : (c : ℕ) (cs : List ℕ) → ((q r : Reader) → Same q.state r.state → bytes (scan q cs) ≡ bytes (scan r cs)) → (q r : Reader) (s t : State) (x : Sign) → Same s t → bytes (onward (step_by q c s x) (λ z. scan z cs)) ≡ bytes (onward (step_by r c t x) (λ z. scan z cs))
+same_step : (c : ℕ) (cs : List ℕ) → ((q r : Reader) → Same q.state r.state → bytes (scan q cs) ≡ bytes (scan r cs)) → (q r : Reader) (s t : State) (x : Sign) → Same s t → bytes (onward (step_by s c (here q) x) (λ z. scan (past q c z) cs)) ≡ bytes (onward (step_by t c (here r) x) (λ z. scan (past r c z) cs))
 same_step c cs ih q r Between Between (Digit d) h = ih _ _ refl
 same_step c cs ih q r Between Between Space h = ih _ _ tt
 same_step c cs ih q r Between Between Hash h = ih _ _ tt
@@ -110,14 +107,14 @@ idle_gap gap rest r h g =
     let P : State → Type 0 = λ s. bytes (scan (record { lines = r.lines; columns = r.columns; state = s }) (gap ++ rest)) ≡ bytes (scan (record { lines = r.lines; columns = r.columns; state = s }) rest) in
     subst P (sym (is-idle r.state h)) (gap_out gap rest r.lines r.columns g ∙ same rest _ _ tt)
 
-skips : (cs rest other : List ℕ) → ((q : Reader) → settled q cs ≡ true → bytes (scan q (cs ++ other)) ≡ bytes (scan q (cs ++ rest))) → (s : Step) → ahead s (λ q. settled q cs) ≡ true → bytes (onward s (λ q. scan q (cs ++ other))) ≡ bytes (onward s (λ q. scan q (cs ++ rest)))
-skips cs rest other ih (Goes q) h = ih q h
-skips cs rest other ih (Gives b p q) h = before_same (b ∷ []) (said (scan q (cs ++ other))) (said (scan q (cs ++ rest))) (ih q h)
-skips cs rest other ih (Stops e) h = cc
+skips : (cs rest other : List ℕ) (f : State → Reader) → ((q : Reader) → settled q cs ≡ true → bytes (scan q (cs ++ other)) ≡ bytes (scan q (cs ++ rest))) → (s : Step) → ahead s (λ t. settled (f t) cs) ≡ true → bytes (onward s (λ t. scan (f t) (cs ++ other))) ≡ bytes (onward s (λ t. scan (f t) (cs ++ rest)))
+skips cs rest other f ih (Ok (s, None)) h = ih (f s) h
+skips cs rest other f ih (Ok (s, Some m)) h = before_same (m.value ∷ []) (said (scan (f s) (cs ++ other))) (said (scan (f s) (cs ++ rest))) (ih (f s) h)
+skips cs rest other f ih (Err e) h = cc
 
 out : (front gap rest : List ℕ) (r : Reader) → settled r front ≡ true → Gap gap → bytes (scan r (front ++ (gap ++ rest))) ≡ bytes (scan r (front ++ rest))
 out [] gap rest r h g = idle_gap gap rest r h g
-out (c ∷ cs) gap rest r h g = skips cs rest (gap ++ rest) (λ q k. out cs gap rest q k g) (step r c) h
+out (c ∷ cs) gap rest r h g = skips cs rest (gap ++ rest) (past r c) (λ q k. out cs gap rest q k g) (step r.state c (here r)) h
 
 pub loose : (text : List ℕ) → Loose text
 loose text front gap rest e h g = ap (λ (l : List ℕ). result_ok (meaning l)) e ∙ out front gap rest start h g

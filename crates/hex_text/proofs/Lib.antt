@@ -1,4 +1,3 @@
-pub mod Steps
 pub mod Gaps
 pub mod Places
 pub mod Writes

@@ -1,28 +1,37 @@
 -- Bytes written as hexadecimal text, and read back.
-use Rattle.std.proofs.Common.{◌≡◌, ℕ, suc, ◌+◌, ◌*◌, ◌/◌, ◌%◌, ◌<◌, ◌≤◌, List, [], ◌∷◌, ◌++◌, length, get_or, take, Ok, sym, refl, ap, ◌∙◌, append_assoc, arith}
-use Rattle.std.proofs.lemmas.List.{take_more, take_all}
+use Rattle.std.proofs.Common.{◌≡◌, ℕ, zero, suc, ◌+◌, ◌*◌, ◌/◌, ◌%◌, ◌<◌, ◌==◌, ◌&&◌, Bool, true, List, [], ◌∷◌, get_or, slice_index, inl, inr, Ok, Fits, w8, refl, ap, ◌∙◌, arith}
+use Rattle.std.proofs.lemmas.Bool.{and_parts, cases_lt, eqb-true}
 use Rattle.std.proofs.lemmas.Bool.Decides.{nat_tests}
 use Rattle.hex_text.specs.declared.reader.Sign.{Sign}
 use Rattle.hex_text.specs.declared.reader.Sign.TheVariants.{Digit}
 use Rattle.hex_text.specs.declared.reader.State.TheVariants.{Between, Half}
-use Rattle.hex_text.specs.declared.reader.Reader.{Reader}
-use Rattle.hex_text.specs.Reader.{sign, here, past, step_by}
+use Rattle.hex_text.specs.Reader.{Reader, sign, here, past, step_by}
 use Rattle.hex_text.specs.Meaning.{onward, scan, before, said, meaning}
 use Rattle.hex_text.specs.Laws.{digit_char, hex_of}
+use Rattle.hex.specs.Hex.{upper_digits, encode_with, encode_upper}
 
-hex_append : (xs ys : List ℕ) → hex_of (xs ++ ys) ≡ hex_of xs ++ hex_of ys
-hex_append [] ys = refl
-hex_append (x ∷ xs) ys = ap (λ (l : List ℕ). digit_char (x / 16) ∷ (digit_char (x % 16) ∷ l)) (hex_append xs ys)
+-- the crate hex takes its digits from a table: the test of its first n digits computes
+abbrev same_below : ℕ → Bool
+same_below zero = true
+same_below (suc n) = slice_index upper_digits n == digit_char n && same_below n
 
--- one more byte
-pub more : (bs : List ℕ) (i : ℕ) (t u v : List ℕ) (c d : ℕ) → i < length bs → t ≡ hex_of (take i bs) → c ≡ digit_char (get_or bs i 0 / 16) → u ≡ t ++ (c ∷ []) → d ≡ digit_char (get_or bs i 0 % 16) → v ≡ u ++ (d ∷ []) → v ≡ hex_of (take (i + 1) bs)
-more bs i t u v c d h now high first low second =
-    let both : v ≡ t ++ (c ∷ (d ∷ [])) = second ∙ (ap (λ (l : List ℕ). l ++ (d ∷ [])) first ∙ append_assoc t (c ∷ []) (d ∷ [])) in
-    let two : t ++ (c ∷ (d ∷ [])) ≡ hex_of (take i bs) ++ hex_of (get_or bs i 0 ∷ []) = cc in
-    both ∙ (two ∙ (sym (hex_append (take i bs) (get_or bs i 0 ∷ [])) ∙ sym (ap hex_of (take_more bs i 0 h))))
+same_at : (n d : ℕ) → same_below n ≡ true → d < n → slice_index upper_digits d ≡ digit_char d
+same_at zero d h lt = absurd (omega arith)
+same_at (suc n) d h lt =
+    let parts = and_parts (slice_index upper_digits n == digit_char n) (same_below n) h in
+    elim (cases_lt d n) [
+      | inl below ↦ same_at n d parts.1 below
+      | inr top ↦
+          let e : d ≡ n = omega arith in
+          rw e (eqb-true _ _ parts.0)
+    ]
 
-pub all : (bs : List ℕ) (i : ℕ) (t : List ℕ) → length bs ≤ i → t ≡ hex_of (take i bs) → t ≡ hex_of bs
-all bs i t h e = e ∙ ap hex_of (take_all i bs h)
+pub encodes : (bs : List ℕ) → ((k : ℕ) → Fits w8 (get_or bs k 0)) → encode_upper bs ≡ hex_of bs
+unfolding encode_with
+encodes [] h = refl
+encodes (b ∷ bs) h =
+    let small : b < 256 = (h 0).fits in
+    rw (same_at 16 (b / 16) refl (omega arith), same_at 16 (b % 16) refl (omega arith), encodes bs (λ k. h (suc k))) refl
 
 digit_sign : (d : ℕ) → d < 16 → sign (digit_char d) ≡ Digit d
 digit_sign d h = grind (arith, nat_tests)
@@ -37,10 +46,10 @@ back (b ∷ bs) l n h =
     let q : Reader = past r (digit_char (b / 16)) (Half (b / 16) (here r)) in
     let p : Reader = past q (digit_char (b % 16)) Between in
     let value : b / 16 * 16 + b % 16 ≡ b = omega arith in
-    ap (λ (s : Sign). said (onward (step_by r (digit_char (b / 16)) Between s) (λ z. scan z (digit_char (b % 16) ∷ hex_of bs)))) (digit_sign (b / 16) high)
-    ∙ (ap (λ (s : Sign). said (onward (step_by q (digit_char (b % 16)) (Half (b / 16) (here r)) s) (λ z. scan z (hex_of bs)))) (digit_sign (b % 16) low)
+    ap (λ (s : Sign). said (onward (step_by Between (digit_char (b / 16)) (here r) s) (λ z. scan (past r (digit_char (b / 16)) z) (digit_char (b % 16) ∷ hex_of bs)))) (digit_sign (b / 16) high)
+    ∙ (ap (λ (s : Sign). said (onward (step_by (Half (b / 16) (here r)) (digit_char (b % 16)) (here q) s) (λ z. scan (past q (digit_char (b % 16)) z) (hex_of bs)))) (digit_sign (b % 16) low)
     ∙ (ap (before ((b / 16 * 16 + b % 16) ∷ [])) (back bs p.lines p.columns (λ k. h (suc k)))
     ∙ ap (λ (x : ℕ). Ok (x ∷ bs)) value))
 
-pub reads-back : (bs : List ℕ) → ((k : ℕ) → get_or bs k 0 < 256) → meaning (hex_of bs) ≡ Ok bs
-reads-back bs h = back bs 0 0 h
+pub reads_back : (bs : List ℕ) → ((k : ℕ) → Fits w8 (get_or bs k 0)) → meaning (hex_of bs) ≡ Ok bs
+reads_back bs h = back bs 0 0 (λ k. (h k).fits)

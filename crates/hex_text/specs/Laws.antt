@@ -1,15 +1,13 @@
 -- What holds of every hexadecimal text.
-use Rattle.std.specs.Prelude.{◌≡◌, ℕ, zero, suc, ◌+◌, ◌*◌, ◌/◌, ◌%◌, Bool, true, false, cond, not, ◌&&◌, ◌⊎◌, List, [], ◌∷◌, ◌++◌, length, drop, is_some, IfSome, Some, Ok, Option, ◌==◌, nat_lt}
+use Rattle.std.specs.Prelude.{◌≡◌, ℕ, zero, suc, ◌+◌, ◌*◌, ◌/◌, ◌%◌, Bool, true, false, cond, not, ◌&&◌, ◌⊎◌, List, [], ◌∷◌, ◌++◌, length, drop, is_some, IfSome, Some, Ok, Err, Option, ◌==◌, nat_lt}
 use Rattle.std.specs.Result.{result_ok}
 use Rattle.hex_text.specs.declared.text.Position.{Position}
 use Rattle.hex_text.specs.declared.reader.Sign.TheVariants.{Digit}
 use Rattle.hex_text.specs.declared.reader.State.{State}
 use Rattle.hex_text.specs.declared.reader.State.TheVariants.{Between, Half, Comment}
-use Rattle.hex_text.specs.declared.reader.Reader.{Reader}
-use Rattle.hex_text.specs.declared.reader.Step.{Step}
-use Rattle.hex_text.specs.declared.reader.Step.TheVariants.{Goes, Gives, Stops}
-use Rattle.hex_text.specs.Reader.{step, sign}
-use Rattle.hex_text.specs.Meaning.{Mark, scan, start, meaning, nth}
+use Rattle.hex_text.specs.declared.reader.Mark.{Mark}
+use Rattle.hex_text.specs.Reader.{Reader, Step, step, here, past, sign}
+use Rattle.hex_text.specs.Meaning.{scan, start, meaning, nth}
 
 -- bytes as hexadecimal text, two digits each, the higher first
 abbrev pub digit_char : ℕ → ℕ
@@ -25,14 +23,13 @@ idle Between = true
 idle (Half d p) = false
 idle Comment = false
 
-abbrev pub ahead : Step → (Reader → Bool) → Bool
-ahead (Goes r) rest = rest r
-ahead (Gives b p r) rest = rest r
-ahead (Stops e) rest = false
+abbrev pub ahead : Step → (State → Bool) → Bool
+ahead (Ok (s, m)) rest = rest s
+ahead (Err e) rest = false
 
 abbrev pub settled : Reader → List ℕ → Bool
 settled r [] = idle r.state
-settled r (c ∷ cs) = ahead (step r c) (λ q. settled q cs)
+settled r (c ∷ cs) = ahead (step r.state c (here r)) (λ s. settled (past r c s) cs)
 
 -- whether no character ends the line
 abbrev pub one_line : List ℕ → Bool

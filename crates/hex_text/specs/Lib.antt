@@ -1,3 +1,4 @@
 pub mod Reader
 pub mod Meaning
+pub mod Bytes
 pub mod Laws

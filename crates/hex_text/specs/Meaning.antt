@@ -1,42 +1,34 @@
 -- What a hexadecimal text says.
-use Rattle.std.specs.Prelude.{◌≡◌, ℕ, zero, suc, List, [], ◌∷◌, ◌++◌, Some, None, Ok, Err, vec_items, Option, Result, Vec}
-use Rattle.std.specs.Option.{option_map}
+use Rattle.std.specs.Prelude.{◌≡◌, ℕ, List, [], ◌∷◌, ◌++◌, Some, None, Ok, Err, vec_items, Option, Result, Vec, slice_get}
+use Rattle.std.specs.Option.{option_map, option_and_then}
+use Rattle.std.specs.Result.{result_ok}
 use Rattle.std.specs.declared.alloc.Global.{Global}
 use Rattle.hex_text.specs.declared.text.Position.{Position}
 use Rattle.hex_text.specs.declared.text.TextError.{TextError}
 use Rattle.hex_text.specs.declared.text.TextError.TheVariants.{Stray, Lone, Memory}
+use Rattle.hex_text.specs.declared.reader.Mark.{Mark}
 use Rattle.hex_text.specs.declared.reader.State.{State}
 use Rattle.hex_text.specs.declared.reader.State.TheVariants.{Between, Half, Comment}
-use Rattle.hex_text.specs.declared.reader.Reader.{Reader}
-use Rattle.hex_text.specs.declared.reader.Step.{Step}
-use Rattle.hex_text.specs.declared.reader.Step.TheVariants.{Goes, Gives, Stops}
-use Rattle.hex_text.specs.Reader.{step}
+use Rattle.hex_text.specs.Reader.{Reader, Step, step, here, past}
 
--- a byte of the text, with the position of its first digit
-pub record Mark : Type 0 where
-  pub value : ℕ
-  pub position : Position
-
--- the bytes of a text, up to its end or its first error
-pub data Scan : Type 0 where
-  finished : Scan
-  failed : TextError → Scan
-  marked : Mark → Scan → Scan
+-- the bytes of a text, up to its end or its first error, which then comes last
+abbrev pub Scan : Type 0
+Scan = List (Result Mark TextError)
 
 abbrev pub finish : State → Scan
-finish Between = finished
-finish (Half d p) = failed (Lone p)
-finish Comment = finished
+finish Between = []
+finish (Half d p) = Err (Lone p) ∷ []
+finish Comment = []
 
-abbrev pub onward : Step → (Reader → Scan) → Scan
-onward (Goes r) rest = rest r
-onward (Gives b p r) rest = marked (record { value = b; position = p }) (rest r)
-onward (Stops e) rest = failed e
+abbrev pub onward : Step → (State → Scan) → Scan
+onward (Ok (s, None)) rest = rest s
+onward (Ok (s, Some m)) rest = Ok m ∷ rest s
+onward (Err e) rest = Err e ∷ []
 
 -- what a text says to a reader
 abbrev pub scan : Reader → List ℕ → Scan
 scan r [] = finish r.state
-scan r (c ∷ cs) = onward (step r c) (λ q. scan q cs)
+scan r (c ∷ cs) = onward (step r.state c (here r)) (λ s. scan (past r c s) cs)
 
 abbrev pub start : Reader
 start = record { lines = 0; columns = 0; state = Between }
@@ -47,9 +39,9 @@ before bs (Err e) = Err e
 
 -- the bytes, or the first error
 abbrev pub said : Scan → Result (List ℕ) TextError
-said finished = Ok []
-said (failed e) = Err e
-said (marked m s) = before (m.value ∷ []) (said s)
+said [] = Ok []
+said (Err e ∷ s) = Err e
+said (Ok m ∷ s) = before (m.value ∷ []) (said s)
 
 abbrev pub meaning : List ℕ → Result (List ℕ) TextError
 meaning text = said (scan start text)
@@ -63,10 +55,7 @@ Reads text (Err Memory) = Unit {0}
 
 -- byte number k of those before the end or the first error
 abbrev pub nth : ℕ → Scan → Option Mark
-nth k finished = None
-nth k (failed e) = None
-nth zero (marked m s) = Some m
-nth (suc k) (marked m s) = nth k s
+nth k s = option_and_then result_ok (slice_get s k)
 
 -- where its first digit stands
 abbrev pub position_of : List ℕ → ℕ → Option Position

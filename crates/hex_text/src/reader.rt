@@ -1,7 +1,6 @@
-// Goes over a hexadecimal text character by character.
-ghost use Rattle.std.specs.Prelude.{◌≡◌, ℕ, ◌+◌, ◌-◌, ◌^◌, ◌<◌};
-ghost use Rattle.hex_text.specs.Reader.{sign as sign_at, here as here_of, past as past_of, step as step_of, Small, SmallHalf, Counted, Sound, Kept};
-ghost use Rattle.hex_text.specs.Meaning.{start as start_of};
+// Goes over a hexadecimal text byte by byte.
+ghost use Rattle.std.specs.Prelude.{◌≡◌, ◌+◌, ◌^◌, ◌<◌, length, IfOk};
+ghost use Rattle.hex_text.specs.Reader.{sign as sign_at, step as step_of, Small, first_digit};
 
 use super::text::{Position, TextError};
 
@@ -18,18 +17,26 @@ pub(crate) enum Sign {
     Other,
 }
 
+// What a character is. White space is told by hand, since is_ascii_whitespace takes the form feed too.
 fn sign_of(character: u8) -> Sign
     ensures value { result ≡ sign_at character }
     ensures small { Small result }
 {
-    match character {
-        b'0'..=b'9' => Sign::Digit(character - b'0'),
-        b'A'..=b'F' => Sign::Digit(character - b'A' + 10),
-        b'a'..=b'f' => Sign::Digit(character - b'a' + 10),
-        b' ' | b'\t' | b'\r' | b'\n' => Sign::Space,
-        b'#' => Sign::Hash,
-        _ => Sign::Other,
+    match (character as char).to_digit(16) {
+        Some(digit) => Sign::Digit(digit as u8),
+        None => match character {
+            b' ' | b'\t' | b'\r' | b'\n' => Sign::Space,
+            b'#' => Sign::Hash,
+            _ => Sign::Other,
+        },
     }
+}
+
+// A byte of the text, with the position of its first digit.
+#[derive(Clone, Copy)]
+pub(crate) struct Mark {
+    pub(crate) value: u8,
+    pub(crate) position: Position,
 }
 
 // What the reader has just passed.
@@ -43,98 +50,114 @@ pub(crate) enum State {
     Comment,
 }
 
-// How many lines have ended, how many characters of this line have passed, and what came last.
-#[derive(Clone, Copy)]
-pub(crate) struct Reader {
-    pub(crate) lines: usize,
-    pub(crate) columns: usize,
-    pub(crate) state: State,
-}
-
-// What one more character brings.
-#[derive(Clone, Copy)]
-pub(crate) enum Step {
-    // no byte is complete
-    Goes(Reader),
-    // a byte is complete: its value, and the position of its first digit
-    Gives(u8, Position, Reader),
-    // the text is refused
-    Stops(TextError),
-}
-
-impl Reader {
-    pub(crate) fn start() -> Reader
-        ensures { result ≡ start_of }
+impl State {
+    // What comes after the next character, which stands here, and the byte that it completes, if it completes one.
+    fn step(self, character: u8, here: Position) -> Result<(State, Option<Mark>), TextError>
+        requires { first_digit self < 16 }
+        ensures value { result ≡ step_of self character here }
+        ensures half { IfOk result (λ next. first_digit next.0 < 16) }
     {
-        Reader {
+        match (self, sign_of(character)) {
+            (State::Between, Sign::Digit(high)) => Ok((State::Half(high, here), None)),
+            (State::Between, Sign::Space) => Ok((State::Between, None)),
+            (State::Between, Sign::Hash) => Ok((State::Comment, None)),
+            (State::Between, Sign::Other) => Err(TextError::Stray(here)),
+            (State::Half(high, position), Sign::Digit(low)) => {
+                let value = high * 16 + low;
+                Ok((State::Between, Some(Mark { value, position })))
+            }
+            (State::Half(_, _), Sign::Other) => Err(TextError::Stray(here)),
+            (State::Half(_, position), _) => Err(TextError::Lone(position)),
+            (State::Comment, _) if character == b'\n' => Ok((State::Between, None)),
+            (State::Comment, _) => Ok((State::Comment, None)),
+        }
+    }
+}
+
+// The bytes of a text that are still to come, and after them what is wrong with the text, if something is.
+#[derive(Drop)]
+pub(crate) struct Bytes<'a> {
+    // the characters that are left
+    rest: &'a [u8],
+    // how many lines have ended, and how many characters of this line have passed
+    lines: usize,
+    columns: usize,
+    // what came last
+    state: State,
+    ghost lines_fit: { lines + length rest.now < 2 ^ 64 },
+    ghost columns_fit: { columns + length rest.now < 2 ^ 64 },
+    ghost half: { first_digit state < 16 },
+}
+
+impl<'a> Bytes<'a> {
+    ghost use Rattle.hex_text.specs.Meaning.{start, scan};
+    ghost use Rattle.hex_text.specs.Bytes.{left, TakesFirst, TakesByte};
+
+    pub(crate) fn of(text: &'a [u8]) -> Bytes<'a>
+        ensures { left result ≡ scan start text.now }
+    {
+        Bytes {
+            rest: text,
             lines: 0,
             columns: 0,
             state: State::Between,
         }
     }
 
-    // The position of the next character.
-    fn here(self) -> Position
-        requires lines { self.lines < 2 ^ 64 - 1 }
-        requires columns { self.columns < 2 ^ 64 - 1 }
-        ensures { result ≡ here_of self }
+    // Passes the next character, and gives it with its position.
+    fn take(&mut self) -> Option<(u8, Position)>
+        ensures { TakesFirst self.old result self.new }
     {
-        Position {
+        let (character, rest) = self.rest.split_first()?;
+        let position = Position {
             line: self.lines + 1,
             column: self.columns + 1,
-        }
-    }
-
-    // The reader past the next character.
-    fn past(self, character: u8, state: State) -> Reader
-        requires lines { self.lines < 2 ^ 64 - 1 }
-        requires columns { self.columns < 2 ^ 64 - 1 }
-        ensures value { result ≡ past_of self character state }
-        ensures kept { (i : ℕ) → Counted self i → Counted result (i + 1) }
-    {
-        if character == b'\n' {
-            Reader {
-                lines: self.lines + 1,
-                columns: 0,
-                state,
-            }
+        };
+        if *character == b'\n' {
+            self.lines += 1;
+            self.columns = 0;
         } else {
-            Reader {
-                lines: self.lines,
-                columns: self.columns + 1,
-                state,
-            }
+            self.columns += 1;
         }
+        self.rest = rest;
+        Some((*character, position))
     }
 
-    // What the next character brings.
-    pub(crate) fn step(self, character: u8) -> Step
-        requires lines { self.lines < 2 ^ 64 - 1 }
-        requires columns { self.columns < 2 ^ 64 - 1 }
-        requires half { SmallHalf self.state }
-        ensures value { result ≡ step_of self character }
-        ensures kept { (i : ℕ) → Sound self i → Kept result (i + 1) }
+    // The next byte, if there is one before the end and the first error. A loop, and no `find_map`: each character changes
+    // the state, and an error ends it by `?`.
+    fn byte(&mut self) -> Result<Option<Mark>, TextError>
+        ensures { TakesByte self.old result self.new }
     {
-        match (self.state, sign_of(character)) {
-            (State::Between, Sign::Digit(high)) => Step::Goes(self.past(
-                character,
-                State::Half(high, self.here()),
-            )),
-            (State::Between, Sign::Space) => Step::Goes(self.past(character, State::Between)),
-            (State::Between, Sign::Hash) => Step::Goes(self.past(character, State::Comment)),
-            (State::Between, Sign::Other) => Step::Stops(TextError::Stray(self.here())),
-            (State::Half(high, at), Sign::Digit(low)) => Step::Gives(
-                high * 16 + low,
-                at,
-                self.past(character, State::Between),
-            ),
-            (State::Half(_, _), Sign::Other) => Step::Stops(TextError::Stray(self.here())),
-            (State::Half(_, at), _) => Step::Stops(TextError::Lone(at)),
-            (State::Comment, _) if character == b'\n' => Step::Goes(self.past(
-                character,
-                State::Between,
-            )),
-            (State::Comment, _) => Step::Goes(self.past(character, State::Comment)),
+        while let Some((character, here)) = self.take() {
+            let (state, mark) = self.state.step(character, here)?;
+            self.state = state;
+            if mark.is_some() {
+                return Ok(mark);
+            }
         }
+        match self.state {
+            State::Half(_, position) => Err(TextError::Lone(position)),
+            State::Between | State::Comment => Ok(None),
+        }
+    }
+}
+
+impl<'a> Iterator for Bytes<'a> {
+    ghost use Rattle.std.specs.Iterator.{YieldsFirst, item_count};
+    ghost use Rattle.hex_text.specs.Bytes.{left};
+
+    type Item = Result<Mark, TextError>;
+
+    ghost next_gives = { YieldsFirst left };
+
+    ghost remaining = { item_count left };
+
+    fn next(&mut self) -> Option<Result<Mark, TextError>> {
+        let byte = self.byte();
+        if byte.is_err() {
+            // nothing comes after an error
+            *self = Bytes::of(&[]);
+        }
+        byte.transpose()
     }
 }

@@ -1,29 +1,32 @@
 -- Each refusal is of the first fault: the front is completed to a chart in range.
-use Rattle.std.proofs.Common.{◌≡◌, ℕ, zero, suc, ◌+◌, ◌-◌, ◌/◌, ◌%◌, ◌^◌, ◌<◌, ◌≤◌, Bool, true, false, cond, eqb, ltb, leb, List, [], ◌∷◌, ◌++◌, length, take, drop, is_some, Some, None, sym, refl, ap, ◌∙◌, subst, ⊎_elim, append-nil, arith, length-append, length-drop, pow_mono, le-ltb, lt-ltb, eq-eqb, le-leb, leb-true}
+use Rattle.std.proofs.Common.{◌≡◌, ℕ, zero, suc, ◌+◌, ◌-◌, ◌/◌, ◌%◌, ◌^◌, ◌≤◌, Bool, true, false, cond, eqb, ltb, leb, List, [], ◌∷◌, ◌++◌, length, take, drop, is_some, Some, None, Option, sym, refl, ap, ◌∙◌, subst, ⊎_elim, append-nil, arith, length-append, length-drop, pow_mono, le-ltb, lt-ltb}
+use Rattle.std.specs.List.{flat_map, AllByRecursion}
 use lib.Count.{ones}
 use Rattle.std.proofs.lemmas.List.{take_at, drop_at}
+use Rattle.std.proofs.lemmas.List.Concat.{flat_map-append}
 use Rattle.std.proofs.str.Laws.{order}
 use Rattle.layout.specs.declared.parts.Node.{Node}
 use Rattle.layout.specs.declared.parts.RawEdge.{RawEdge}
 use Rattle.layout.specs.declared.parts.Condition.{Condition}
-use Rattle.layout.specs.declared.parts.Condition.TheVariants.{Equal, AtLeast, LessThan, Absent, HoldsToken}
+use Rattle.layout.specs.declared.parts.Condition.TheVariants.{Absent}
 use Rattle.layout.specs.declared.parts.Guard.{Guard}
 use Rattle.layout.specs.declared.parts.Guard.TheVariants.{One, Two, Three, Four}
 use Rattle.layout.specs.declared.refusal.Fault.{Fault}
 use Rattle.layout.specs.declared.refusal.Fault.TheVariants.{Count, Map, Field, Left}
 use Rattle.layout.specs.declared.refusal.Refusal.{Refusal}
-use Rattle.layout.specs.Reader.{Out, got, bad, bind, refuse, byte, number, field, maybe, stands, set, node, condition, guard, edge, many, count, Parts, chart}
-use Rattle.layout.specs.Layout.{one, wide, optional, flag, all, node_bytes, condition_bytes, conditions, guard_bytes, edge_map_of, edge_bytes, OptIn, AllIn, NodeIn, SetIn, ConditionIn, GuardIn, EdgeIn, InRange, Bytes}
+use Rattle.layout.specs.Fits.{set_fits, condition_fits}
+use Rattle.layout.specs.Reader.{Out, got, bad, bind, refuse, byte, number, ranged, field, maybe, map_byte, stands, set, node, condition, condition_of, fitting, guard, edge, many, count, Parts, chart}
+use Rattle.layout.specs.Layout.{one, wide, optional, flag, node_bytes, condition_bytes, conditions, guard_bytes, edge_map_of, edge_bytes, OptIn, NodeIn, SetIn, ConditionIn, GuardIn, EdgeIn, InRange, Bytes}
 use Rattle.layout.specs.Items.{Sort, node_count, edge_count, node_map, edge_map, event, guard_count, node_set, Item, item, items, flat, node_items, guard_items, edge_items}
 use Rattle.layout.specs.Items as sort
 use Rattle.layout.specs.First.{Wrong, FirstFault, Itemized}
-use Rattle.layout.proofs.Exact.{via, past, to, on, stands-flag, yes_on, from_got, Exact, byte_exact, activity_exact, event_exact, after_exact, when_exact, tally_exact, set_exact, condition_exact, guard_exact, node_exact, edge_exact, count_exact, many_only, map_is}
-use Rattle.layout.proofs.Faults.{clash, flat_append, Amiss, Refuses, Blames, ends, equal_out, likewise, made, seq, Judged, Whole, gave, tested, refused, then, byte_whole, number_whole, item_blames}
+use Rattle.layout.proofs.Exact.{via, stands-flag, from_got, Exact, activity_exact, event_exact, after_exact, when_exact, tally_exact, set_exact, condition_exact, guard_exact, node_exact, edge_exact, count_exact, map_exact, many_only, map_is}
+use Rattle.layout.proofs.Faults.{clash, Amiss, Refuses, Blames, ends, likewise, made, seq, Judged, Whole, gave, tested, refused, then, byte_whole, number_whole, item_blames}
 
 -- ---- the bytes are the items
 
 both : (xs ys : List Item) {us vs : List ℕ} → flat xs ≡ us → flat ys ≡ vs → flat (xs ++ ys) ≡ us ++ vs
-both xs ys p q = flat_append xs ys ∙ cc (p, q)
+both xs ys p q = flat_map-append (λ x. x.1) xs ys ∙ cc (p, q)
 
 record Spells {A : Type 0} (it : A → List Item) (enc : A → List ℕ) : Type 0 where
   same : (v : A) → flat (it v) ≡ enc v
@@ -34,12 +37,12 @@ spells_item s enc = record { same = λ v. append-nil (enc v) }
 spells_optional : {A : Type 0} {it : A → List Item} {enc : A → List ℕ} → Spells it enc → Spells (optional it) (optional enc)
 spells_optional {A} {it} {enc} x = record { same = λ o. elim o as (λ o. flat (optional it o) ≡ optional enc o) [ None ↦ refl | Some v ↦ x.same v ] }
 
-spells_all : {A : Type 0} {it : A → List Item} {enc : A → List ℕ} → Spells it enc → Spells (all it) (all enc)
+spells_all : {A : Type 0} {it : A → List Item} {enc : A → List ℕ} → Spells it enc → Spells (flat_map it) (flat_map enc)
 spells_all {A} {it} {enc} x = record { same = go }
   where
-    go : (vs : List A) → flat (all it vs) ≡ all enc vs
+    go : (vs : List A) → flat (flat_map it vs) ≡ flat_map enc vs
     go [] = refl
-    go (v ∷ vs) = both (it v) (all it vs) (x.same v) (go vs)
+    go (v ∷ vs) = both (it v) (flat_map it vs) (x.same v) (go vs)
 
 node_spells : Spells node_items node_bytes
 node_spells = record { same = λ v. ap (λ l. flag v.activity ∷ l) ((spells_optional (spells_item sort.activity one)).same v.activity) }
@@ -62,71 +65,13 @@ edge_spells n =
 pub itemized : Itemized
 itemized c =
     ap (λ l. length c.nodes ∷ length c.edges ∷ l)
-    (sym (both (all node_items c.nodes) _ ((spells_all node_spells).same c.nodes) ((spells_all (edge_spells (length c.nodes))).same c.edges)))
-
--- ---- maps
-
--- a byte that meets a test, or no map
-abbrev mark : (ℕ → Bool) → List ℕ → ℕ → Out ℕ
-mark t bs i = bind (byte bs i) (λ v j. cond (t v) (got v j) (refuse Map i))
-
-mark_exact : (t : ℕ → Bool) → Exact (mark t) one (λ v. (v < 256) × (t v ≡ true))
-mark_exact t =
-    record {
-      reads = λ bs i v l h e. to (byte_exact.reads bs i v l h.0 e) (λ j r d. (j, on (byte bs i) _ r (yes_on (t v) _ _ h.1 refl), d));
-      only = λ bs i v j b e.
-          via (byte bs i) _ e (λ w k r e1.
-          past (t w) _ _ e1 (λ c f.
-          let o = byte_exact.only bs i w k b r in
-          from_got (λ v j. ((v < 256) × (t v ≡ true)) × (drop i bs ≡ v ∷ drop j bs)) f ((o.0, c), o.1)));
-    }
-
-abbrev node_test : ℕ → Bool
-node_test m = leb m 1
-
-abbrev edge_test : ℕ → Bool
-edge_test m = cond (stands m 5) (cond (stands m 6) (leb m 127) false) false
-
-three_true : (a b c : Bool) → a ≡ true → b ≡ true → c ≡ true → cond a (cond b c false) false ≡ true
-three_true a b c p q r = simp (p, q, r)
-
-three_parts : (a b c : Bool) → cond a (cond b c false) false ≡ true → (a ≡ true) × (b ≡ true) × (c ≡ true)
-three_parts true true c e = (refl, refl, e)
-three_parts true false c e = absurd (let z : ◌≡◌ {A = ℕ} 0 1 = cc in omega arith)
-three_parts false b c e = absurd (let z : ◌≡◌ {A = ℕ} 0 1 = cc in omega arith)
-
--- a read that goes on inside the tests goes on after them
-module _ {C : Type 0} where
-  gated : (o : Out ℕ) (g : ℕ → ℕ → Out ℕ) (h k : ℕ → ℕ → Out C) → ((v j : ℕ) → h v j ≡ bind (g v j) k) → bind o h ≡ bind (bind o g) k
-  gated (got v j) g h k s = s v j
-  gated (bad e) g h k s = refl
-
-  one_test : (a : Bool) (v j : ℕ) (r : Refusal) (k : ℕ → ℕ → Out C) → cond a (k v j) (bad r) ≡ bind (cond a (got v j) (bad r)) k
-  one_test true v j r k = refl
-  one_test false v j r k = refl
-
-  three_tests : (a b c : Bool) (v j : ℕ) (r : Refusal) (k : ℕ → ℕ → Out C) → cond a (cond b (cond c (k v j) (bad r)) (bad r)) (bad r) ≡ bind (cond (cond a (cond b c false) false) (got v j) (bad r)) k
-  three_tests true true c v j r k = one_test c v j r k
-  three_tests true false c v j r k = refl
-  three_tests false b c v j r k = refl
-
--- an edge's fields, once its map is read
-abbrev fields : ℕ → ℕ → List ℕ → ℕ → Out RawEdge
-fields n m bs j =
-    bind (maybe (stands m 0) (field byte 0 31) bs j)
-    (λ trigger j0. bind (maybe (stands m 1) (field number 1 100000000) bs j0)
-    (λ after j1. bind (maybe (stands m 2) (field number 0 4000000000) bs j1)
-    (λ when j2. bind (maybe (stands m 3) (guard n) bs j2)
-    (λ guarded j3. bind (maybe (stands m 4) (field byte 0 31) bs j3)
-    (λ send j4. bind (set n bs j4)
-    (λ sources j5. bind (set n bs j5)
-    (λ targets j6. got (record { trigger = trigger; after = after; when = when; guard = guarded; send = send; sources = sources; targets = targets }) j6)))))))
+    (sym (both (flat_map node_items c.nodes) _ ((spells_all node_spells).same c.nodes) ((spells_all (edge_spells (length c.nodes))).same c.edges)))
 
 -- ---- one part after the other
 
 -- k values in range
 abbrev Row : {A : Type 0} → (A → Type 0) → ℕ → List A → Type 0
-Row In k vs = (length vs ≡ k) × AllIn In vs
+Row In k vs = (length vs ≡ k) × AllByRecursion In vs
 
 -- the set of the first node
 first-node : (n : ℕ) → 2 ≤ n → SetIn n (record { bits = 1 })
@@ -134,7 +79,7 @@ unfolding ones
 first-node n h = record { some = omega arith; few = omega arith; below = let p : 2 ^ 2 ≤ 2 ^ n = pow_mono h in omega arith }
 
 -- a guard of its conditions
-guard_of : (n : ℕ) (cs : List Condition) → 1 ≤ length cs → length cs ≤ 4 → AllIn (ConditionIn n) cs → (g : Guard) × GuardIn n g × ((guard_count, one (length cs)) ∷ all (item (sort.condition n) condition_bytes) cs ≡ guard_items n g)
+guard_of : (n : ℕ) (cs : List Condition) → 1 ≤ length cs → length cs ≤ 4 → AllByRecursion (ConditionIn n) cs → (g : Guard) × GuardIn n g × ((guard_count, one (length cs)) ∷ flat_map (item (sort.condition n) condition_bytes) cs ≡ guard_items n g)
 guard_of n [] l u h = absurd (omega arith)
 guard_of n (c1 ∷ []) l u h = (One c1, h, refl)
 guard_of n (c1 ∷ c2 ∷ []) l u h = (Two c1 c2, h, refl)
@@ -143,10 +88,10 @@ guard_of n (c1 ∷ c2 ∷ c3 ∷ c4 ∷ []) l u h = (Four c1 c2 c3 c4, h, refl)
 guard_of n (c1 ∷ c2 ∷ c3 ∷ c4 ∷ c5 ∷ cs) l u h = absurd (omega arith)
 
 -- a chart of its counts and records
-chart_of : (n m : ℕ) (ns : List Node) (es : List RawEdge) → (2 ≤ n) × (n ≤ 32) → (1 ≤ m) × (m ≤ 64) → Row NodeIn n ns → Row (EdgeIn n) m es → (c : Parts) × InRange c × ((node_count, one n) ∷ (edge_count, one m) ∷ (all node_items ns ++ (all (edge_items n) es ++ [])) ≡ items c)
+chart_of : (n m : ℕ) (ns : List Node) (es : List RawEdge) → (2 ≤ n) × (n ≤ 32) → (1 ≤ m) × (m ≤ 64) → Row NodeIn n ns → Row (EdgeIn n) m es → (c : Parts) × InRange c × ((node_count, one n) ∷ (edge_count, one m) ∷ (flat_map node_items ns ++ (flat_map (edge_items n) es ++ [])) ≡ items c)
 chart_of n m ns es h g hs gs = (
   record { nodes = ns; edges = es },
-  record { nodes_low = omega arith; nodes_high = omega arith; edges_low = omega arith; edges_high = omega arith; nodes = hs.1; edges = subst (λ k. AllIn (EdgeIn k) es) (sym hs.0) gs.1 },
+  record { nodes_low = omega arith; nodes_high = omega arith; edges_low = omega arith; edges_high = omega arith; nodes = hs.1; edges = subst (λ k. AllByRecursion (EdgeIn k) es) (sym hs.0) gs.1 },
   simp (append-nil, ← hs.0, ← gs.0),
 )
 
@@ -166,14 +111,14 @@ module _ (bs : List ℕ) (b : Bytes bs) where
         refuses = λ i. ends None i (None, (refl, tt));
       }
 
-  more : {A C : Type 0} {p : List ℕ → ℕ → Out A} {it : A → List Item} {In : A → Type 0} {f : A → ℕ → Out C} {k : ℕ} → Blames bs p it In → (i : ℕ) → ((v : A) (j : ℕ) → Refuses ⊥ (length bs) (drop j bs) (f v j) (all it) (Row In k)) → Refuses ⊥ (length bs) (drop i bs) (bind (p bs i) f) (all it) (Row In (suc k))
+  more : {A C : Type 0} {p : List ℕ → ℕ → Out A} {it : A → List Item} {In : A → Type 0} {f : A → ℕ → Out C} {k : ℕ} → Blames bs p it In → (i : ℕ) → ((v : A) (j : ℕ) → Refuses ⊥ (length bs) (drop j bs) (f v j) (flat_map it) (Row In k)) → Refuses ⊥ (length bs) (drop i bs) (bind (p bs i) f) (flat_map it) (Row In (suc k))
   more x i go = likewise (seq x i (λ v j h. go v j)) (λ t h. (t.0 ∷ t.1, (ap suc h.1.0, (h.0, h.1.1)), refl))
 
-  many-refuses : {A : Type 0} {p : List ℕ → ℕ → Out A} {it : A → List Item} {In : A → Type 0} → Blames bs p it In → (k i : ℕ) → Refuses ⊥ (length bs) (drop i bs) (many p k bs i) (all it) (Row In k)
+  many-refuses : {A : Type 0} {p : List ℕ → ℕ → Out A} {it : A → List Item} {In : A → Type 0} → Blames bs p it In → (k i : ℕ) → Refuses ⊥ (length bs) (drop i bs) (many p k bs i) (flat_map it) (Row In k)
   many-refuses x zero i = ends [] i ([], (refl, tt))
   many-refuses {A} {p} x (suc k) i = more x i (λ v j. made (many p k bs j) (λ vs. v ∷ vs) (many-refuses x k j))
 
-  many_blames : {A : Type 0} {p : List ℕ → ℕ → Out A} {it : A → List Item} {enc : A → List ℕ} {In : A → Type 0} → Exact p enc In → Spells it enc → Blames bs p it In → (k : ℕ) → Blames bs (many p k) (all it) (Row In k)
+  many_blames : {A : Type 0} {p : List ℕ → ℕ → Out A} {it : A → List Item} {enc : A → List ℕ} {In : A → Type 0} → Exact p enc In → Spells it enc → Blames bs p it In → (k : ℕ) → Blames bs (many p k) (flat_map it) (Row In k)
   many_blames x s y k =
       record {
         stands = λ i vs j e. let r = many_only x k bs i vs j b e in ((r.0, r.1), r.2 ∙ ap (λ l. l ++ drop j bs) (sym ((spells_all s).same vs)));
@@ -182,14 +127,14 @@ module _ (bs : List ℕ) (b : Bytes bs) where
 
   -- ---- the items
 
-  range_judged : {p : List ℕ → ℕ → Out ℕ} {w : ℕ} → Whole bs w p → (f : Fault) (low high i : ℕ) → Judged (w + 0) (λ e. e ≡ record { fault = f; place = i }) (length bs) (drop i bs) (bind (p bs i) (λ v j. cond (leb low v) (cond (leb v high) (got v j) (refuse f i)) (refuse f i)))
+  range_judged : {p : List ℕ → ℕ → Out ℕ} {w : ℕ} → Whole bs w p → (f : Fault) (low high i : ℕ) → Judged (w + 0) (λ e. e ≡ record { fault = f; place = i }) (length bs) (drop i bs) (ranged f (λ v. v) p low high bs i)
   range_judged x f low high i = then 0 x i (λ v j. tested (leb low v) (tested (leb v high) (gave v j) (refused f i)) (refused f i))
 
   nodes_blames : Blames bs (count 2 32) (item node_count one) (λ v. (2 ≤ v) × (v ≤ 32))
-  nodes_blames = item_blames bs b node_count (omega arith) (count_exact 2 32) (λ xs h. (h.0, (h.1, h.2), h.3)) (2, (omega arith, omega arith)) (range_judged (byte_whole bs b) Count 2 32)
+  nodes_blames = item_blames bs b node_count (omega arith) (count_exact 2 32 (omega arith)) (λ xs h. (h.0, (h.1, h.2), h.3)) (2, (omega arith, omega arith)) (range_judged (byte_whole bs b) Count 2 32)
 
   edges_blames : Blames bs (count 1 64) (item edge_count one) (λ v. (1 ≤ v) × (v ≤ 64))
-  edges_blames = item_blames bs b edge_count (omega arith) (count_exact 1 64) (λ xs h. (h.0, (h.1, h.2), h.3)) (1, (omega arith, omega arith)) (range_judged (byte_whole bs b) Count 1 64)
+  edges_blames = item_blames bs b edge_count (omega arith) (count_exact 1 64 (omega arith)) (λ xs h. (h.0, (h.1, h.2), h.3)) (1, (omega arith, omega arith)) (range_judged (byte_whole bs b) Count 1 64)
 
   activity_blames : Blames bs (field byte 0 63) (item sort.activity one) (λ v. v ≤ 63)
   activity_blames = item_blames bs b sort.activity (omega arith) activity_exact (λ xs h. h) (0, omega arith) (range_judged (byte_whole bs b) Field 0 63)
@@ -206,57 +151,51 @@ module _ (bs : List ℕ) (b : Bytes bs) where
   tally_blames : Blames bs (field byte 1 4) (item guard_count one) (λ v. (1 ≤ v) × (v ≤ 4))
   tally_blames = item_blames bs b guard_count (omega arith) tally_exact (λ xs h. (h.0, (h.1, h.2), h.3)) (1, (omega arith, omega arith)) (range_judged (byte_whole bs b) Field 1 4)
 
-  condition_blames : (n : ℕ) → n ≤ 32 → Blames bs (condition n) (item (sort.condition n) condition_bytes) (ConditionIn n)
-  condition_blames n small =
-      item_blames bs b (sort.condition n) (omega arith) (condition_exact n small) (λ xs h. h) (Absent 0, omega arith) (λ i.
+  condition_blames : (n : ℕ) → Blames bs (condition n) (item (sort.condition n) condition_bytes) (ConditionIn n)
+  condition_blames n =
+      item_blames bs b (sort.condition n) (omega arith) (condition_exact n) (λ xs h. h) (Absent 0, omega arith) (λ i.
       then 5 (byte_whole bs b) i (λ kind j. then 4 (byte_whole bs b) j (λ subject k. then 0 (number_whole bs b) k (λ constant l.
-      let wrong = refused Field i in
-      let plain = λ (c : Condition). tested (leb subject 15) (gave c l) wrong in
-      tested (eqb kind 0) (plain (Equal subject constant))
-      (tested (eqb kind 1) (plain (AtLeast subject constant))
-      (tested (eqb kind 2) (plain (LessThan subject constant))
-      (tested (eqb kind 3) (tested (leb subject 15) (tested (eqb constant 0) (gave (Absent subject) l) wrong) wrong)
-      (tested (eqb kind 4) (tested (ltb subject n) (tested (eqb constant 0) (gave (HoldsToken subject) l) wrong) wrong)
-      wrong))))))))
+      fitting_judged (condition_of kind subject constant) i l))))
+    where
+      fitting_judged : (o : Option Condition) (i l : ℕ) → Judged 0 (λ e. e ≡ record { fault = Field; place = i }) (length bs) (drop l bs) (fitting n o i l)
+      fitting_judged (Some c) i l = tested (condition_fits n c) (gave c l) (refused Field i)
+      fitting_judged None i l = refused Field i
 
-  set_blames : (n : ℕ) → 2 ≤ n → n ≤ 32 → Blames bs (set n) (item (node_set n) (λ s. wide s.bits)) (SetIn n)
-  set_blames n large small =
-      item_blames bs b (node_set n) (omega arith) (set_exact n small) (λ xs h. h) (record { bits = 1 }, first-node n large) (λ i.
-      then 0 (number_whole bs b) i (λ v j. tested (ltb 0 (ones v)) (tested (leb (ones v) 4) (tested (eqb (v / 2 ^ n) 0) (gave (record { bits = v }) j) (refused Field i)) (refused Field i)) (refused Field i)))
+  set_blames : (n : ℕ) → 2 ≤ n → Blames bs (set n) (item (node_set n) (λ s. wide s.bits)) (SetIn n)
+  set_blames n large =
+      item_blames bs b (node_set n) (omega arith) (set_exact n) (λ xs h. h) (record { bits = 1 }, first-node n large) (λ i.
+      then 0 (number_whole bs b) i (λ v j. tested (set_fits n (record { bits = v })) (gave (record { bits = v }) j) (refused Field i)))
 
   -- ---- a guard
 
   -- the conditions after a guard's count
-  conditions-refuse : (n : ℕ) → n ≤ 32 → (k j : ℕ) → (1 ≤ k) × (k ≤ 4) →
+  conditions-refuse : (n : ℕ) → (k j : ℕ) → (1 ≤ k) × (k ≤ 4) →
       Refuses ⊥ (length bs) (drop j bs)
       (bind (condition n bs j) (λ a j1. cond (eqb k 1) (got (One a) j1) (bind (condition n bs j1)
       (λ b j2. cond (eqb k 2) (got (Two a b) j2) (bind (condition n bs j2)
       (λ c j3. cond (eqb k 3) (got (Three a b c) j3) (bind (condition n bs j3)
       (λ d j4. got (Four a b c d) j4))))))))
-      (all (item (sort.condition n) condition_bytes)) (Row (ConditionIn n) k)
-  conditions-refuse n small zero j h = absurd (omega arith)
-  conditions-refuse n small (suc zero) j h = let x = condition_blames n small in more x j (λ a j1. ends (One a) j1 ([], (refl, tt)))
-  conditions-refuse n small (suc (suc zero)) j h = let x = condition_blames n small in more x j (λ a j1. more x j1 (λ b j2. ends (Two a b) j2 ([], (refl, tt))))
-  conditions-refuse n small (suc (suc (suc zero))) j h = let x = condition_blames n small in more x j (λ a j1. more x j1 (λ b j2. more x j2 (λ c j3. ends (Three a b c) j3 ([], (refl, tt)))))
-  conditions-refuse n small (suc (suc (suc (suc zero)))) j h = let x = condition_blames n small in more x j (λ a j1. more x j1 (λ b j2. more x j2 (λ c j3. more x j3 (λ d j4. ends (Four a b c d) j4 ([], (refl, tt))))))
-  conditions-refuse n small (suc (suc (suc (suc (suc k))))) j h = absurd (omega arith)
+      (flat_map (item (sort.condition n) condition_bytes)) (Row (ConditionIn n) k)
+  conditions-refuse n zero j h = absurd (omega arith)
+  conditions-refuse n (suc zero) j h = let x = condition_blames n in more x j (λ a j1. ends (One a) j1 ([], (refl, tt)))
+  conditions-refuse n (suc (suc zero)) j h = let x = condition_blames n in more x j (λ a j1. more x j1 (λ b j2. ends (Two a b) j2 ([], (refl, tt))))
+  conditions-refuse n (suc (suc (suc zero))) j h = let x = condition_blames n in more x j (λ a j1. more x j1 (λ b j2. more x j2 (λ c j3. ends (Three a b c) j3 ([], (refl, tt)))))
+  conditions-refuse n (suc (suc (suc (suc zero)))) j h = let x = condition_blames n in more x j (λ a j1. more x j1 (λ b j2. more x j2 (λ c j3. more x j3 (λ d j4. ends (Four a b c d) j4 ([], (refl, tt))))))
+  conditions-refuse n (suc (suc (suc (suc (suc k))))) j h = absurd (omega arith)
 
-  guard_blames : (n : ℕ) → n ≤ 32 → Blames bs (guard n) (guard_items n) (GuardIn n)
-  guard_blames n small =
+  guard_blames : (n : ℕ) → Blames bs (guard n) (guard_items n) (GuardIn n)
+  guard_blames n =
       record {
-        stands = standing (guard_exact n small) (guard_spells n);
-        refuses = λ i. likewise (seq tally_blames i (λ k j h. conditions-refuse n small k j h)) (λ t h.
+        stands = standing (guard_exact n) (guard_spells n);
+        refuses = λ i. likewise (seq tally_blames i (λ k j h. conditions-refuse n k j h)) (λ t h.
             let g = guard_of n t.1 (omega arith) (omega arith) h.1.1 in
-            (g.0, g.1, ap (λ k. (guard_count, one k) ∷ all (item (sort.condition n) condition_bytes) t.1) (sym h.1.0) ∙ g.2));
+            (g.0, g.1, ap (λ k. (guard_count, one k) ∷ flat_map (item (sort.condition n) condition_bytes) t.1) (sym h.1.0) ∙ g.2));
       }
 
   -- ---- records that begin with a map
 
-  mark-judged : (t : ℕ → Bool) (i : ℕ) → Judged 1 (λ e. e ≡ record { fault = Map; place = i }) (length bs) (drop i bs) (mark t bs i)
-  mark-judged t i = then 0 (byte_whole bs b) i (λ v j. tested (t v) (gave v j) (refused Map i))
-
-  node-map_blames : Blames bs (mark node_test) (item node_map one) (λ v. (v < 256) × (node_test v ≡ true))
-  node-map_blames = item_blames bs b node_map (omega arith) (mark_exact node_test) (λ xs h. (h.0, (omega (arith, h.1), le-leb h.0 1 h.1), h.2)) (0, (omega arith, refl)) (mark-judged node_test)
+  node-map_blames : Blames bs (map_byte 0 1) (item node_map one) (λ v. (0 ≤ v) × (v ≤ 1))
+  node-map_blames = item_blames bs b node_map (omega arith) (map_exact 0 1 (omega arith)) (λ xs h. (h.0, (omega arith, h.1), h.2)) (0, (omega arith, omega arith)) (range_judged (byte_whole bs b) Map 0 1)
 
   node_blames : Blames bs node node_items NodeIn
   node_blames =
@@ -264,37 +203,30 @@ module _ (bs : List ℕ) (b : Bytes bs) where
         stands = standing node_exact node_spells;
         refuses = λ i.
             likewise
-            (equal_out
-            (gated (byte bs i) (λ m j. cond (node_test m) (got m j) (refuse Map i)) _ (λ m j. bind (maybe (stands m 0) (field byte 0 63) bs j) (λ a k. got (record { activity = a }) k)) (λ m j. one_test (node_test m) m j _ _))
-            (seq node-map_blames i (λ m j h. made (maybe (stands m 0) (field byte 0 63) bs j) (λ a. record { activity = a }) ((maybe_blames (stands m 0) activity_blames).refuses j))))
+            (seq node-map_blames i (λ m j h. made (maybe (stands m 0) (field byte 0 63) bs j) (λ a. record { activity = a }) ((maybe_blames (stands m 0) activity_blames).refuses j)))
             (λ t h.
-            let fits = leb-true t.0 1 h.0.1 in
+            let fits : t.0 ≤ 1 = h.0.1 in
             let bit = stands-flag t.1 (t.0 / 1 % 2) (omega arith) h.1.0 in
             (record { activity = t.1 }, h.1.1, ap (λ k. (node_map, one k) ∷ optional (item sort.activity one) t.1) (omega arith)));
       }
 
-  edge-map_blames : Blames bs (mark edge_test) (item edge_map one) (λ v. (v < 256) × (edge_test v ≡ true))
-  edge-map_blames =
-      item_blames bs b edge_map (omega arith) (mark_exact edge_test)
-      (λ xs h. (h.0, (omega (arith, h.2), three_true _ _ _ (eq-eqb (h.0 / 32 % 2) 1 (omega (arith, h.1, h.2))) (eq-eqb (h.0 / 64 % 2) 1 (omega (arith, h.1, h.2))) (le-leb h.0 127 h.2)), h.3))
-      (96, (omega arith, refl)) (mark-judged edge_test)
+  edge-map_blames : Blames bs (map_byte 96 127) (item edge_map one) (λ v. (96 ≤ v) × (v ≤ 127))
+  edge-map_blames = item_blames bs b edge_map (omega arith) (map_exact 96 127 (omega arith)) (λ xs h. (h.0, (h.1, h.2), h.3)) (96, (omega arith, omega arith)) (range_judged (byte_whole bs b) Map 96 127)
 
-  edge_blames : (n : ℕ) → 2 ≤ n → n ≤ 32 → Blames bs (edge n) (edge_items n) (EdgeIn n)
-  edge_blames n large small =
+  edge_blames : (n : ℕ) → 2 ≤ n → Blames bs (edge n) (edge_items n) (EdgeIn n)
+  edge_blames n large =
       record {
-        stands = standing (edge_exact n small) (edge_spells n);
+        stands = standing (edge_exact n) (edge_spells n);
         refuses = λ i.
             likewise
-            (equal_out
-            (gated (byte bs i) (λ m j. cond (edge_test m) (got m j) (refuse Map i)) _ (λ m j. fields n m bs j) (λ m j. three_tests (stands m 5) (stands m 6) (leb m 127) m j _ _))
             (seq edge-map_blames i (λ m j h.
             seq (maybe_blames (stands m 0) event_blames) j (λ trigger j0 h0.
             seq (maybe_blames (stands m 1) after_blames) j0 (λ after j1 h1.
             seq (maybe_blames (stands m 2) when_blames) j1 (λ when j2 h2.
-            seq (maybe_blames (stands m 3) (guard_blames n small)) j2 (λ guarded j3 h3.
+            seq (maybe_blames (stands m 3) (guard_blames n)) j2 (λ guarded j3 h3.
             seq (maybe_blames (stands m 4) event_blames) j3 (λ send j4 h4.
-            seq (set_blames n large small) j4 (λ sources j5 h5.
-            made (set n bs j5) (λ targets. record { trigger = trigger; after = after; when = when; guard = guarded; send = send; sources = sources; targets = targets }) ((set_blames n large small).refuses j5))))))))))
+            seq (set_blames n large) j4 (λ sources j5 h5.
+            made (set n bs j5) (λ targets. record { trigger = trigger; after = after; when = when; guard = guarded; send = send; sources = sources; targets = targets }) ((set_blames n large).refuses j5)))))))))
             (λ t h.
             let t1 = t.1.1 in
             let h1 = h.1.1 in
@@ -302,7 +234,7 @@ module _ (bs : List ℕ) (b : Bytes bs) where
             let h3 = h1.1.1 in
             let t5 = t3.1.1 in
             let h5 = h3.1.1 in
-            let is = map_is t.0 t.1.0 t1.0 t1.1.0 t3.0 t3.1.0 (three_parts _ _ _ h.0.1) (h.1.0.0, h1.0.0, h1.1.0.0, h3.0.0, h3.1.0.0) in (
+            let is = map_is t.0 t.1.0 t1.0 t1.1.0 t3.0 t3.1.0 h.0 (h.1.0.0, h1.0.0, h1.1.0.0, h3.0.0, h3.1.0.0) in (
               record { trigger = t.1.0; after = t1.0; when = t1.1.0; guard = t3.0; send = t3.1.0; sources = t5.0; targets = t5.1 },
               record { trigger = h.1.0.1; after = h1.0.1; when = h1.1.0.1; guard = h3.0.1; send = h3.1.0.1; sources = h5.0; targets = h5.1 },
               ap (λ k. (edge_map, one k) ∷ (optional (item event one) t.1.0 ++ (optional (item sort.after wide) t1.0 ++ (optional (item sort.when wide) t1.1.0 ++ (optional (guard_items n) t3.0 ++ (optional (item event one) t3.1.0 ++ (item (node_set n) wide t5.0.bits ++ item (node_set n) wide t5.1.bits))))))) is,
@@ -332,7 +264,7 @@ module _ (bs : List ℕ) (b : Bytes bs) where
       (seq nodes_blames 0 (λ n i h.
       seq edges_blames i (λ m j g.
       seq (many_blames node_exact node_spells node_blames n) j (λ ns k hs.
-      seq (many_blames (edge_exact n h.1) (edge_spells n) (edge_blames n h.0 h.1) m) k (λ es l gs.
+      seq (many_blames (edge_exact n) (edge_spells n) (edge_blames n h.0) m) k (λ es l gs.
       left-refuses l (record { nodes = ns; edges = es }))))))
       (λ t h. chart_of t.0 t.1.0 t.1.1.0 t.1.1.1.0 h.0 h.1.0 h.1.1.0 h.1.1.1.0)
 

@@ -1,23 +1,21 @@
 -- A reader that agrees with an encoding, part by part.
-use Rattle.std.proofs.Common.{◌≡◌, ℕ, zero, suc, ◌+◌, ◌*◌, ◌/◌, ◌%◌, ◌^◌, ◌<◌, ◌≤◌, Bool, true, false, cond, eqb, ltb, leb, List, [], ◌∷◌, ◌++◌, length, get_or, drop, is_some, Some, None, Option, sym, refl, ap, ◌∙◌, subst, ⊎_elim, append_assoc, append-nil, one-mul, zero-mul, arith, length-drop, rules, ltb-false, ltb-true, le-ltb, lt-ltb, eq-eqb, eqb-true, le-leb, leb-true}
-use lib.Count.{ones}
+use Rattle.std.proofs.Common.{◌≡◌, ℕ, zero, suc, ◌+◌, ◌*◌, ◌/◌, ◌%◌, ◌^◌, ◌<◌, ◌≤◌, Bool, true, false, cond, eqb, ltb, leb, List, [], ◌∷◌, ◌++◌, length, get_or, drop, is_some, Some, None, Option, sym, refl, ap, ◌∙◌, subst, ⊎_elim, append_assoc, append-nil, arith, length-drop, rules, ltb-false, ltb-true, le-ltb, lt-ltb, eqb-true, le-leb, leb-true}
+use Rattle.std.specs.List.{flat_map, AllByRecursion}
 use borrow.Author.Tests.{eqb-false}
-use Rattle.std.proofs.lemmas.Nat.{shr-shr, div_below, mod_below, div-add-mod', pow_pos}
+use Rattle.std.proofs.lemmas.Nat.{shr-shr}
 use Rattle.std.proofs.lemmas.List.{drop_more, drop_all}
 use Rattle.std.proofs.str.Laws.{order}
+use Rattle.layout.specs.declared.refusal.Fault.{Fault}
+use Rattle.layout.specs.declared.refusal.Fault.TheVariants.{Count, Map, Field}
 use Rattle.layout.specs.declared.refusal.Refusal.{Refusal}
 use Rattle.layout.specs.declared.parts.Condition.{Condition}
 use Rattle.layout.specs.declared.parts.Condition.TheVariants.{Equal, AtLeast, LessThan, Absent, HoldsToken}
 use Rattle.layout.specs.declared.parts.Guard.{Guard}
 use Rattle.layout.specs.declared.parts.Guard.TheVariants.{One, Two, Three, Four}
-use Rattle.layout.specs.Reader.{condition, guard, Out, got, bad, bind, byte, number, field, maybe, stands, set, node, edge, many, count, Parts, chart}
-use Rattle.layout.specs.Layout.{condition_bytes, guard_bytes, ConditionIn, GuardIn, wide, one, optional, flag, all, node_bytes, edge_bytes, encode, OptIn, AllIn, NodeIn, SetIn, EdgeIn, InRange, Bytes, Accepts}
-
-pub div_zero : (v m : ℕ) → v < m → v / m ≡ 0
-div_zero v m h = let p : 0 < m = omega arith in let l = div_below v m 1 p (simp one-mul h) in omega arith
-
-zero-div : (v m : ℕ) → 0 < m → v / m ≡ 0 → v < m
-zero-div v m p e = let d = div-add-mod' v m in let l = mod_below v m p in let z : v / m * m ≡ 0 = rw (e, zero-mul) in omega arith
+use Rattle.layout.proofs.Fits.{Wide, set-fits, set_within, condition_within}
+use Rattle.layout.specs.Fits.{set_fits, condition_fits}
+use Rattle.layout.specs.Reader.{condition, condition_of, fitting, guard, Out, got, bad, bind, byte, number, ranged, field, maybe, map_byte, stands, set, node, edge, many, count, Parts, chart}
+use Rattle.layout.specs.Layout.{condition_bytes, guard_bytes, ConditionIn, GuardIn, wide, one, optional, flag, node_bytes, edge_bytes, encode, OptIn, NodeIn, SetIn, EdgeIn, InRange, Bytes, Accepts}
 
 -- ---- how a read goes on
 
@@ -126,29 +124,26 @@ pub number_exact : Exact number wide (λ v. v < 2 ^ 32)
 number_exact = record { reads = λ bs i v t h e. number-reads bs i v t e; only = number-only }
 
 -- a range
-pub field_exact : {p : List ℕ → ℕ → Out ℕ} {enc : ℕ → List ℕ} {In : ℕ → Type 0} (low high : ℕ) → Exact p enc In → ((v : ℕ) → v ≤ high → In v) → Exact (field p low high) enc (λ v. (low ≤ v) × (v ≤ high))
-field_exact {p} {enc} {In} low high x fits =
+pub ranged_exact : {p : List ℕ → ℕ → Out ℕ} {enc : ℕ → List ℕ} {In : ℕ → Type 0} (f : Fault) (low high : ℕ) → Exact p enc In → ((v : ℕ) → v ≤ high → In v) → Exact (ranged f (λ v. v) p low high) enc (λ v. (low ≤ v) × (v ≤ high))
+ranged_exact {p} {enc} {In} f low high x fits =
     record {
       reads = λ bs i v t h e.
-          let r = x.reads bs i v t (fits v h.1) e in
-          let l = le-leb low v h.0 in
-          let u = le-leb v high h.1 in
-          (r.0, search rules, r.2);
+          to (x.reads bs i v t (fits v h.1) e) (λ j r d. (j, on (p bs i) _ r (yes_on (leb low v) _ _ (le-leb low v h.0) (yes_on (leb v high) _ _ (le-leb v high h.1) refl)), d));
       only = λ bs i v j b e.
-          let r = from_bind (p bs i) _ v j e in
-          let l = from_cond (leb low r.0) _ _ v j r.3 in
-          let u = from_cond (leb r.0 high) _ _ v j l.1 in
-          let f = u.1 in
-          let same : r.0 ≡ v = cc in
-          let to : r.1 ≡ j = cc in
-          let m = x.only bs i r.0 r.1 b r.2 in
-          let lo = leb-true low r.0 l.0 in
-          let hi = leb-true r.0 high u.0 in
-          ((omega arith, omega arith), cc);
+          via (p bs i) _ e (λ w k r e1.
+          past (leb low w) _ _ e1 (λ l e2.
+          past (leb w high) _ _ e2 (λ u e3.
+          from_got (λ v j. ((low ≤ v) × (v ≤ high)) × (drop i bs ≡ enc v ++ drop j bs)) e3 ((leb-true low w l, leb-true w high u), (x.only bs i w k b r).1))));
     }
 
+pub count_exact : (low high : ℕ) → high < 256 → Exact (count low high) one (λ v. (low ≤ v) × (v ≤ high))
+count_exact low high h = ranged_exact Count low high byte_exact (λ v k. omega arith)
+
+pub map_exact : (low high : ℕ) → high < 256 → Exact (map_byte low high) one (λ v. (low ≤ v) × (v ≤ high))
+map_exact low high h = ranged_exact Map low high byte_exact (λ v k. omega arith)
+
 pub upto_exact : {p : List ℕ → ℕ → Out ℕ} {enc : ℕ → List ℕ} {In : ℕ → Type 0} (high : ℕ) → Exact p enc In → ((v : ℕ) → v ≤ high → In v) → Exact (field p 0 high) enc (λ v. v ≤ high)
-upto_exact high x fits = exact_in (field_exact 0 high x fits) (λ v h. h.1) (λ v h. (omega arith, h))
+upto_exact high x fits = exact_in (ranged_exact Field 0 high x fits) (λ v h. h.1) (λ v h. (omega arith, h))
 
 pub activity_exact : Exact (field byte 0 63) one (λ v. v ≤ 63)
 activity_exact = upto_exact 63 byte_exact (λ v h. omega arith)
@@ -157,13 +152,13 @@ pub event_exact : Exact (field byte 0 31) one (λ v. v ≤ 31)
 event_exact = upto_exact 31 byte_exact (λ v h. omega arith)
 
 pub after_exact : Exact (field number 1 100000000) wide (λ v. (1 ≤ v) × (v ≤ 100000000))
-after_exact = field_exact 1 100000000 number_exact (λ v h. omega arith)
+after_exact = ranged_exact Field 1 100000000 number_exact (λ v h. omega arith)
 
 pub when_exact : Exact (field number 0 4000000000) wide (λ v. v ≤ 4000000000)
 when_exact = upto_exact 4000000000 number_exact (λ v h. omega arith)
 
 pub tally_exact : Exact (field byte 1 4) one (λ v. (1 ≤ v) × (v ≤ 4))
-tally_exact = field_exact 1 4 byte_exact (λ v h. omega arith)
+tally_exact = ranged_exact Field 1 4 byte_exact (λ v h. omega arith)
 
 -- a field that stands only where its bit does
 pub maybe_exact : {A : Type 0} {p : List ℕ → ℕ → Out A} {enc : A → List ℕ} {In : A → Type 0} (b : Bool) → Exact p enc In → Exact (maybe b p) (optional enc) (λ o. (is_some o ≡ b) × OptIn In o)
@@ -196,22 +191,17 @@ flag_bit None = omega arith
 flag_bit (Some v) = omega arith
 
 -- a set of nodes
-pub set_exact : (n : ℕ) → n ≤ 32 → Exact (set n) (λ s. wide s.bits) (SetIn n)
-set_exact n small =
+pub set_exact : (n : ℕ) → Exact (set n) (λ s. wide s.bits) (SetIn n)
+set_exact n =
     record {
       reads = λ bs i s t h e.
           let r = number-reads bs i s.bits t e in
-          let some = lt-ltb 0 (ones s.bits) h.some in
-          let few = le-leb (ones s.bits) 4 h.few in
-          let below = eq-eqb (s.bits / 2 ^ n) 0 (div_zero s.bits (2 ^ n) h.below) in
+          let fits = set-fits n s h in
           (r.0, search rules, r.2);
       only = λ bs i s j b e.
-          let r = from_bind (number bs i) _ s j e in
-          let l = from_cond (ltb 0 (ones r.0)) _ _ s j r.3 in
-          let u = from_cond (leb (ones r.0) 4) _ _ s j l.1 in
-          let w = from_cond (eqb (r.0 / 2 ^ n) 0) _ _ s j u.1 in
-          let m = number-only bs i r.0 r.1 b r.2 in
-          from_got (λ s j. SetIn n s × (drop i bs ≡ wide s.bits ++ drop j bs)) w.1 (record { some = ltb-true _ _ l.0; few = leb-true _ _ u.0; below = zero-div r.0 (2 ^ n) (pow_pos n) (eqb-true _ _ w.0) }, m.1);
+          via (number bs i) _ e (λ v k r e1.
+          past (set_fits n (record { bits = v })) _ _ e1 (λ fits f.
+          from_got (λ s j. SetIn n s × (drop i bs ≡ wide s.bits ++ drop j bs)) f (set_within n _ fits, (number-only bs i v k b r).1)));
     }
 
 pub node_exact : Exact node node_bytes NodeIn
@@ -220,26 +210,43 @@ node_exact =
       reads = λ bs i v t h e.
           let m = flag v.activity in
           let b = flag_bit v.activity in
-          let r = byte_reads bs i m _ e in
-          let fits = le-leb m 1 (omega arith) in
           let is : is_some v.activity ≡ stands m 0 = flag-stands v.activity (m / 1 % 2) (omega arith) in
-          let a = (maybe_exact (stands m 0) activity_exact).reads bs r.0 v.activity t (is, h) r.2 in
-          (a.0, search rules, a.2);
+          to ((map_exact 0 1 (omega arith)).reads bs i m _ (omega arith, omega arith) e) (λ j r d.
+          to ((maybe_exact (stands m 0) activity_exact).reads bs j v.activity t (is, h) d) (λ k p at.
+          (k, on (map_byte 0 1 bs i) _ r (on (maybe (stands m 0) (field byte 0 63) bs j) _ p refl), at)));
       only = λ bs i v j b e.
-          let r = from_bind (byte bs i) _ v j e in
-          let l = from_cond (leb r.0 1) _ _ v j r.3 in
-          let u = from_bind (maybe (stands r.0 0) (field byte 0 63) bs r.1) _ v j l.1 in
-          let fits = leb-true _ _ l.0 in
-          let m = byte-only bs i r.0 r.1 b r.2 in
-          let a = (maybe_exact (stands r.0 0) activity_exact).only bs r.1 u.0 u.1 b u.2 in
-          let x = stands-flag u.0 (r.0 / 1 % 2) (omega arith) a.0.0 in
-          let is : r.0 ≡ flag u.0 = omega arith in
-          let at = a.1 in
-          from_got (λ v j. NodeIn v × (drop i bs ≡ node_bytes v ++ drop j bs)) u.3 (a.0.1, cc);
+          via (map_byte 0 1 bs i) _ e (λ m k r e1.
+          via (maybe (stands m 0) (field byte 0 63) bs k) _ e1 (λ o l q e2.
+          let u = (map_exact 0 1 (omega arith)).only bs i m k b r in
+          let a = (maybe_exact (stands m 0) activity_exact).only bs k o l b q in
+          let x = stands-flag o (m / 1 % 2) (omega arith) a.0.0 in
+          let is : m ≡ flag o = omega (arith, u.0.0, u.0.1) in
+          from_got (λ v j. NodeIn v × (drop i bs ≡ node_bytes v ++ drop j bs)) e2 (a.0.1, cc (u.1, a.1))));
     }
 
-pub condition_exact : (n : ℕ) → n ≤ 32 → Exact (condition n) condition_bytes (ConditionIn n)
-condition_exact n small = record { reads = there; only = back }
+-- which way a test went
+pick : {A P : Type 0} {z : A} (b : Bool) (x y : A) → cond b x y ≡ z → (b ≡ true → x ≡ z → P) → (b ≡ false → y ≡ z → P) → P
+pick true x y e f g = f refl e
+pick false x y e f g = g refl e
+
+from_some : {A : Type 0} (P : A → Type 0) {x y : A} → Some x ≡ Some y → P x → P y
+from_some P {x} {y} e h = let a : x ≡ y = cc in subst P a h
+
+none_some : {A P : Type 0} (x : A) → None ≡ Some x → P
+none_some x e = absurd (let z : ◌≡◌ {A = ℕ} 0 1 = cc in omega arith)
+
+-- a condition is written as the fields that it was made of
+fields-only : (kind subject constant : ℕ) (c : Condition) → condition_of kind subject constant ≡ Some c → constant < 2 ^ 32 → Wide c × (kind ∷ subject ∷ wide constant ≡ condition_bytes c)
+fields-only kind subject constant c e w =
+    let G : Condition → Type 0 = λ c. Wide c × (kind ∷ subject ∷ wide constant ≡ condition_bytes c) in
+    pick (eqb kind 0) _ _ e (λ b f. let is = eqb-true kind 0 b in from_some G {x = Equal subject constant} f (w, cc)) (λ n0 e0.
+    pick (eqb kind 1) _ _ e0 (λ b f. let is = eqb-true kind 1 b in from_some G {x = AtLeast subject constant} f (w, cc)) (λ n1 e1.
+    pick (eqb kind 2) _ _ e1 (λ b f. let is = eqb-true kind 2 b in from_some G {x = LessThan subject constant} f (w, cc)) (λ n2 e2.
+    pick (eqb kind 3) _ _ e2 (λ b f. pick (eqb constant 0) _ _ f (λ z g. let is = eqb-true kind 3 b in let no = eqb-true constant 0 z in from_some G {x = Absent subject} g (tt, cc)) (λ z. none_some c)) (λ n3 e3.
+    pick (eqb kind 4) _ _ e3 (λ b f. pick (eqb constant 0) _ _ f (λ z g. let is = eqb-true kind 4 b in let no = eqb-true constant 0 z in from_some G {x = HoldsToken subject} g (tt, cc)) (λ z. none_some c)) (λ n4. none_some c)))))
+
+pub condition_exact : (n : ℕ) → Exact (condition n) condition_bytes (ConditionIn n)
+condition_exact n = record { reads = there; only = back }
   where
     there : (bs : List ℕ) (i : ℕ) (v : Condition) (t : List ℕ) → ConditionIn n v → drop i bs ≡ condition_bytes v ++ t → (j : ℕ) × (condition n bs i ≡ got v j) × (drop j bs ≡ t)
     there bs i (Equal a c) t h e = let r = byte_reads bs i _ _ e in let s = byte_reads bs r.0 _ _ r.2 in let w = number-reads bs s.0 c t s.2 in let l = le-leb a 15 h.0 in (w.0, search rules, w.2)
@@ -247,6 +254,10 @@ condition_exact n small = record { reads = there; only = back }
     there bs i (LessThan a c) t h e = let r = byte_reads bs i _ _ e in let s = byte_reads bs r.0 _ _ r.2 in let w = number-reads bs s.0 c t s.2 in let l = le-leb a 15 h.0 in (w.0, search rules, w.2)
     there bs i (Absent a) t h e = let r = byte_reads bs i _ _ e in let s = byte_reads bs r.0 _ _ r.2 in let w = number-reads bs s.0 0 t s.2 in let l = le-leb a 15 h in (w.0, search rules, w.2)
     there bs i (HoldsToken k) t h e = let r = byte_reads bs i _ _ e in let s = byte_reads bs r.0 _ _ r.2 in let w = number-reads bs s.0 0 t s.2 in let l = lt-ltb k n h in (w.0, search rules, w.2)
+
+    judged : (o : Option Condition) (i l : ℕ) (v : Condition) (j : ℕ) → fitting n o i l ≡ got v j → (o ≡ Some v) × (condition_fits n v ≡ true) × (l ≡ j)
+    judged (Some c) i l v j e = past (condition_fits n c) _ _ e (λ f g. from_got (λ w k. (Some c ≡ Some w) × (condition_fits n w ≡ true) × (l ≡ k)) g (refl, f, refl))
+    judged None i l v j e = absurd (let z : ◌≡◌ {A = ℕ} 0 1 = cc in omega arith)
 
     back : (bs : List ℕ) (i : ℕ) (v : Condition) (j : ℕ) → Bytes bs → condition n bs i ≡ got v j → ConditionIn n v × (drop i bs ≡ condition_bytes v ++ drop j bs)
     back bs i v j b e =
@@ -256,27 +267,19 @@ condition_exact n small = record { reads = there; only = back }
         let u1 = byte-only bs i kind i1 b r1 in
         let u2 = byte-only bs i1 subject i2 b r2 in
         let u3 = number-only bs i2 constant i3 b r3 in
-        let G : Condition → ℕ → Type 0 = λ v j. ConditionIn n v × (drop i bs ≡ condition_bytes v ++ drop j bs) in
-        either (eqb kind 0) _ _ e3
-        (λ k f. past (leb subject 15) _ _ f (λ l g. let w = eqb-true kind 0 k in from_got G {x = Equal subject constant} {i = i3} g ((leb-true _ _ l, u3.0), cc)))
-        (λ ne4 e4. either (eqb kind 1) _ _ e4
-        (λ k f. past (leb subject 15) _ _ f (λ l g. let w = eqb-true kind 1 k in from_got G {x = AtLeast subject constant} {i = i3} g ((leb-true _ _ l, u3.0), cc)))
-        (λ ne5 e5. either (eqb kind 2) _ _ e5
-        (λ k f. past (leb subject 15) _ _ f (λ l g. let w = eqb-true kind 2 k in from_got G {x = LessThan subject constant} {i = i3} g ((leb-true _ _ l, u3.0), cc)))
-        (λ ne6 e6. either (eqb kind 3) _ _ e6
-        (λ k f. past (leb subject 15) _ _ f (λ l g. past (eqb constant 0) _ _ g (λ z q. let w = eqb-true kind 3 k in let y = eqb-true constant 0 z in from_got G {x = Absent subject} {i = i3} q (leb-true _ _ l, cc))))
-        (λ ne7 e7. past (eqb kind 4) _ _ e7
-        (λ k f. past (ltb subject n) _ _ f (λ l g. past (eqb constant 0) _ _ g (λ z q. let w = eqb-true kind 4 k in let y = eqb-true constant 0 z in from_got G {x = HoldsToken subject} {i = i3} q (ltb-true _ _ l, cc)))))))))))
+        let f = judged (condition_of kind subject constant) i i3 v j e3 in
+        let is = fields-only kind subject constant v f.0 u3.0 in
+        (condition_within n v f.1 is.0, u1.1 ∙ cc (u2.1, u3.1, is.1, f.2)))))
 
-pub guard_exact : (n : ℕ) → n ≤ 32 → Exact (guard n) guard_bytes (GuardIn n)
-guard_exact n small = record { reads = there; only = back }
+pub guard_exact : (n : ℕ) → Exact (guard n) guard_bytes (GuardIn n)
+guard_exact n = record { reads = there; only = back }
   where
     x : Exact (condition n) condition_bytes (ConditionIn n)
-    x = condition_exact n small
+    x = condition_exact n
 
     there : (bs : List ℕ) (i : ℕ) (v : Guard) (t : List ℕ) → GuardIn n v → drop i bs ≡ guard_bytes v ++ t → (j : ℕ) × (guard n bs i ≡ got v j) × (drop j bs ≡ t)
     there bs i (One a) t h e =
-        let k = tally_exact.reads bs i 1 _ (omega arith, omega arith) (e ∙ simp (append_assoc, append-nil)) in
+        let k = tally_exact.reads bs i 1 _ (omega arith, omega arith) (e ∙ simp append-nil) in
         let r1 = x.reads bs k.0 a t h.0 k.2 in
         (r1.0, search rules, r1.2)
     there bs i (Two a b) t h e =
@@ -306,7 +309,7 @@ guard_exact n small = record { reads = there; only = back }
         let u0 = tally_exact.only bs i k i0 q r0 in
         let u1 = x.only bs i0 a i1 q r1 in
         either (eqb k 1) _ _ e1
-        (λ w f. let is = eqb-true k 1 w in from_got G {x = One a} {i = i1} f ((u1.0, tt), simp (append_assoc, append-nil) (cc)))
+        (λ w f. let is = eqb-true k 1 w in from_got G {x = One a} {i = i1} f ((u1.0, tt), simp append-nil (cc)))
         (λ nf1 f1. via (condition n bs i1) _ f1 (λ b i2 r2 e2.
         let u2 = x.only bs i1 b i2 q r2 in
         either (eqb k 2) _ _ e2
@@ -334,20 +337,17 @@ map_bits m h =
     omega arith
 
 -- a map is told by the fields that stand
-pub map_is : (m : ℕ) (trigger after when : Option ℕ) (guarded : Option Guard) (send : Option ℕ) → (stands m 5 ≡ true) × (stands m 6 ≡ true) × (leb m 127 ≡ true) → (is_some trigger ≡ stands m 0) × (is_some after ≡ stands m 1) × (is_some when ≡ stands m 2) × (is_some guarded ≡ stands m 3) × (is_some send ≡ stands m 4) → m ≡ flag trigger + 2 * flag after + 4 * flag when + 8 * flag guarded + 16 * flag send + 32 + 64
+pub map_is : (m : ℕ) (trigger after when : Option ℕ) (guarded : Option Guard) (send : Option ℕ) → (96 ≤ m) × (m ≤ 127) → (is_some trigger ≡ stands m 0) × (is_some after ≡ stands m 1) × (is_some when ≡ stands m 2) × (is_some guarded ≡ stands m 3) × (is_some send ≡ stands m 4) → m ≡ flag trigger + 2 * flag after + 4 * flag when + 8 * flag guarded + 16 * flag send + 32 + 64
 map_is m trigger after when guarded send c f =
     let x0 = stands-flag trigger (m / 1 % 2) (omega arith) f.0 in
     let x1 = stands-flag after (m / 2 % 2) (omega arith) f.1 in
     let x2 = stands-flag when (m / 4 % 2) (omega arith) f.2 in
     let x3 = stands-flag guarded (m / 8 % 2) (omega arith) f.3 in
     let x4 = stands-flag send (m / 16 % 2) (omega arith) f.4 in
-    let x5 = eqb-true (m / 32 % 2) 1 c.0 in
-    let x6 = eqb-true (m / 64 % 2) 1 c.1 in
-    let x7 = leb-true m 127 c.2 in
-    omega (arith, map_bits m x7)
+    omega (arith, map_bits m c.1, c.0)
 
-pub edge_exact : (n : ℕ) → n ≤ 32 → Exact (edge n) edge_bytes (EdgeIn n)
-edge_exact n small =
+pub edge_exact : (n : ℕ) → Exact (edge n) edge_bytes (EdgeIn n)
+edge_exact n =
     record {
       reads = λ bs i v t h e.
           let m = flag v.trigger + 2 * flag v.after + 4 * flag v.when + 8 * flag v.guard + 16 * flag v.send + 32 + 64 in
@@ -356,10 +356,7 @@ edge_exact n small =
           let b2 = flag_bit v.when in
           let b3 = flag_bit v.guard in
           let b4 = flag_bit v.send in
-          let r = byte_reads bs i m (optional one v.trigger ++ (optional wide v.after ++ (optional wide v.when ++ (optional guard_bytes v.guard ++ (optional one v.send ++ (wide v.sources.bits ++ (wide v.targets.bits ++ t))))))) (e ∙ simp append_assoc) in
-          let s5 : stands m 5 ≡ true = eq-eqb _ _ (omega arith) in
-          let s6 : stands m 6 ≡ true = eq-eqb _ _ (omega arith) in
-          let fits : leb m 127 ≡ true = le-leb m 127 (omega arith) in
+          let r = (map_exact 96 127 (omega arith)).reads bs i m (optional one v.trigger ++ (optional wide v.after ++ (optional wide v.when ++ (optional guard_bytes v.guard ++ (optional one v.send ++ (wide v.sources.bits ++ (wide v.targets.bits ++ t))))))) (omega arith, omega arith) (e ∙ simp append_assoc) in
           let is0 : is_some v.trigger ≡ stands m 0 = flag-stands v.trigger (m / 1 % 2) (omega arith) in
           let is1 : is_some v.after ≡ stands m 1 = flag-stands v.after (m / 2 % 2) (omega arith) in
           let is2 : is_some v.when ≡ stands m 2 = flag-stands v.when (m / 4 % 2) (omega arith) in
@@ -369,75 +366,61 @@ edge_exact n small =
           to ((maybe_exact (stands m 0) event_exact).reads bs i1 v.trigger _ (is0, h.trigger) d) (λ j0 p0 at0.
           to ((maybe_exact (stands m 1) after_exact).reads bs j0 v.after _ (is1, h.after) at0) (λ j1 p1 at1.
           to ((maybe_exact (stands m 2) when_exact).reads bs j1 v.when _ (is2, h.when) at1) (λ j2 p2 at2.
-          to ((maybe_exact (stands m 3) (guard_exact n small)).reads bs j2 v.guard _ (is3, h.guard) at2) (λ j3 p3 at3.
+          to ((maybe_exact (stands m 3) (guard_exact n)).reads bs j2 v.guard _ (is3, h.guard) at2) (λ j3 p3 at3.
           to ((maybe_exact (stands m 4) event_exact).reads bs j3 v.send _ (is4, h.send) at3) (λ j4 p4 at4.
-          to ((set_exact n small).reads bs j4 v.sources _ h.sources at4) (λ j5 p5 at5.
-          to ((set_exact n small).reads bs j5 v.targets _ h.targets at5) (λ j6 p6 at6. (
+          to ((set_exact n).reads bs j4 v.sources _ h.sources at4) (λ j5 p5 at5.
+          to ((set_exact n).reads bs j5 v.targets _ h.targets at5) (λ j6 p6 at6. (
             j6,
-            on (byte bs i) _ p (yes_on (stands m 5) _ _ s5 (yes_on (stands m 6) _ _ s6 (yes_on (leb m 127) _ _ fits
+            on (map_byte 96 127 bs i) _ p
                 (on (maybe (stands m 0) (field byte 0 31) bs i1) _ p0
                 (on (maybe (stands m 1) (field number 1 100000000) bs j0) _ p1
                 (on (maybe (stands m 2) (field number 0 4000000000) bs j1) _ p2
                 (on (maybe (stands m 3) (guard n) bs j2) _ p3
                 (on (maybe (stands m 4) (field byte 0 31) bs j3) _ p4
                 (on (set n bs j4) _ p5
-                (on (set n bs j5) _ p6 refl)))))))))),
+                (on (set n bs j5) _ p6 refl))))))),
             at6,
           )))))))));
       only = λ bs i v j b e.
-          via (byte bs i) _ e (λ m i1 r e1.
-          past (stands m 5) _ _ e1 (λ c5 e2.
-          past (stands m 6) _ _ e2 (λ c6 e3.
-          past (leb m 127) _ _ e3 (λ c7 e4.
-          via (maybe (stands m 0) (field byte 0 31) bs i1) _ e4 (λ trigger j0 r0 g0.
+          via (map_byte 96 127 bs i) _ e (λ m i1 r e1.
+          via (maybe (stands m 0) (field byte 0 31) bs i1) _ e1 (λ trigger j0 r0 g0.
           via (maybe (stands m 1) (field number 1 100000000) bs j0) _ g0 (λ after j1 r1 g1.
           via (maybe (stands m 2) (field number 0 4000000000) bs j1) _ g1 (λ when j2 r2 g2.
           via (maybe (stands m 3) (guard n) bs j2) _ g2 (λ guarded j3 r3 g3.
           via (maybe (stands m 4) (field byte 0 31) bs j3) _ g3 (λ send j4 r4 g4.
           via (set n bs j4) _ g4 (λ sources j5 r5 g5.
           via (set n bs j5) _ g5 (λ targets j6 r6 g6.
-          let u = byte-only bs i m i1 b r in
+          let u = (map_exact 96 127 (omega arith)).only bs i m i1 b r in
           let f0 = (maybe_exact (stands m 0) event_exact).only bs i1 trigger j0 b r0 in
           let f1 = (maybe_exact (stands m 1) after_exact).only bs j0 after j1 b r1 in
           let f2 = (maybe_exact (stands m 2) when_exact).only bs j1 when j2 b r2 in
-          let f3 = (maybe_exact (stands m 3) (guard_exact n small)).only bs j2 guarded j3 b r3 in
+          let f3 = (maybe_exact (stands m 3) (guard_exact n)).only bs j2 guarded j3 b r3 in
           let f4 = (maybe_exact (stands m 4) event_exact).only bs j3 send j4 b r4 in
-          let f5 = (set_exact n small).only bs j4 sources j5 b r5 in
-          let f6 = (set_exact n small).only bs j5 targets j6 b r6 in
-          let is = map_is m trigger after when guarded send (c5, c6, c7) (f0.0.0, f1.0.0, f2.0.0, f3.0.0, f4.0.0) in
+          let f5 = (set_exact n).only bs j4 sources j5 b r5 in
+          let f6 = (set_exact n).only bs j5 targets j6 b r6 in
+          let is = map_is m trigger after when guarded send u.0 (f0.0.0, f1.0.0, f2.0.0, f3.0.0, f4.0.0) in
           from_got (λ v j. EdgeIn n v × (drop i bs ≡ edge_bytes v ++ drop j bs)) g6
-          (record { trigger = f0.0.1; after = f1.0.1; when = f2.0.1; guard = f3.0.1; send = f4.0.1; sources = f5.0; targets = f6.0 }, simp append_assoc (cc)))))))))))));
+          (record { trigger = f0.0.1; after = f1.0.1; when = f2.0.1; guard = f3.0.1; send = f4.0.1; sources = f5.0; targets = f6.0 }, simp append_assoc (cc))))))))));
     }
 
 -- ---- records one after the other
 
 module _ {A : Type 0} {p : List ℕ → ℕ → Out A} {enc : A → List ℕ} {In : A → Type 0} (x : Exact p enc In) where
-  pub many_reads : (bs : List ℕ) (i : ℕ) (vs : List A) (t : List ℕ) → AllIn In vs → drop i bs ≡ all enc vs ++ t → (j : ℕ) × (many p (length vs) bs i ≡ got vs j) × (drop j bs ≡ t)
+  pub many_reads : (bs : List ℕ) (i : ℕ) (vs : List A) (t : List ℕ) → AllByRecursion In vs → drop i bs ≡ flat_map enc vs ++ t → (j : ℕ) × (many p (length vs) bs i ≡ got vs j) × (drop j bs ≡ t)
   many_reads bs i [] t h e = (i, refl, e)
   many_reads bs i (v ∷ vs) t h e =
-      to (x.reads bs i v (all enc vs ++ t) h.0 (e ∙ append_assoc (enc v) (all enc vs) t)) (λ j p1 at1.
+      to (x.reads bs i v (flat_map enc vs ++ t) h.0 (e ∙ append_assoc (enc v) (flat_map enc vs) t)) (λ j p1 at1.
       to (many_reads bs j vs t h.1 at1) (λ k p2 at2.
       (k, on (p bs i) _ p1 (on (many p (length vs) bs j) _ p2 refl), at2)))
 
-  pub many_only : (n : ℕ) (bs : List ℕ) (i : ℕ) (vs : List A) (j : ℕ) → Bytes bs → many p n bs i ≡ got vs j → (length vs ≡ n) × AllIn In vs × (drop i bs ≡ all enc vs ++ drop j bs)
-  many_only zero bs i vs j b e = from_got (λ vs j. (length vs ≡ 0) × AllIn In vs × (drop i bs ≡ all enc vs ++ drop j bs)) e (refl, tt, refl)
+  pub many_only : (n : ℕ) (bs : List ℕ) (i : ℕ) (vs : List A) (j : ℕ) → Bytes bs → many p n bs i ≡ got vs j → (length vs ≡ n) × AllByRecursion In vs × (drop i bs ≡ flat_map enc vs ++ drop j bs)
+  many_only zero bs i vs j b e = from_got (λ vs j. (length vs ≡ 0) × AllByRecursion In vs × (drop i bs ≡ flat_map enc vs ++ drop j bs)) e (refl, tt, refl)
   many_only (suc n) bs i vs j b e =
       via (p bs i) _ e (λ y k r e1.
       via (many p n bs k) _ e1 (λ ys l r2 e2.
       let f = x.only bs i y k b r in
       let g = many_only n bs k ys l b r2 in
-      from_got (λ vs j. (length vs ≡ suc n) × AllIn In vs × (drop i bs ≡ all enc vs ++ drop j bs)) e2 (ap suc g.0, (f.0, g.1), simp append_assoc (cc (f.1, g.2)))))
-
-pub count_exact : (low high : ℕ) → Exact (count low high) one (λ v. (low ≤ v) × (v ≤ high))
-count_exact low high =
-    record {
-      reads = λ bs i v t h e. to (byte_reads bs i v t e) (λ j r d. (j, on (byte bs i) _ r (yes_on (leb low v) _ _ (le-leb low v h.0) (yes_on (leb v high) _ _ (le-leb v high h.1) refl)), d));
-      only = λ bs i v j b e.
-          via (byte bs i) _ e (λ w k r e1.
-          past (leb low w) _ _ e1 (λ l e2.
-          past (leb w high) _ _ e2 (λ u e3.
-          from_got (λ v j. ((low ≤ v) × (v ≤ high)) × (drop i bs ≡ v ∷ drop j bs)) e3 ((leb-true low w l, leb-true w high u), (byte-only bs i w k b r).1))));
-    }
+      from_got (λ vs j. (length vs ≡ suc n) × AllByRecursion In vs × (drop i bs ≡ flat_map enc vs ++ drop j bs)) e2 (ap suc g.0, (f.0, g.1), simp append_assoc (cc (f.1, g.2)))))
 
 -- ---- a whole chart
 
@@ -450,14 +433,14 @@ chart-only bs c j b e =
     either (ltb j3 (length bs)) _ _ e3
     (λ w f. absurd (let z : ◌≡◌ {A = ℕ} 0 1 = cc in omega arith))
     (λ w f.
-    let f0 = (count_exact 2 32).only bs 0 n j0 b r0 in
-    let f1 = (count_exact 1 64).only bs j0 m j1 b r1 in
+    let f0 = (count_exact 2 32 (omega arith)).only bs 0 n j0 b r0 in
+    let f1 = (count_exact 1 64 (omega arith)).only bs j0 m j1 b r1 in
     let f2 = many_only node_exact n bs j1 ns j2 b r2 in
-    let f3 = many_only (edge_exact n f0.0.1) m bs j2 es j3 b r3 in
+    let f3 = many_only (edge_exact n) m bs j2 es j3 b r3 in
     let none : drop j3 bs ≡ [] = drop_all j3 bs (ltb-false _ _ w) in
-    let whole : bs ≡ n ∷ m ∷ (all node_bytes ns ++ all edge_bytes es) = f0.1 ∙ ap (λ l. n ∷ l) (f1.1 ∙ ap (λ l. m ∷ l) (f2.2 ∙ ap (λ l. all node_bytes ns ++ l) (f3.2 ∙ ap (λ l. all edge_bytes es ++ l) none ∙ append-nil (all edge_bytes es)))) in
+    let whole : bs ≡ n ∷ m ∷ (flat_map node_bytes ns ++ flat_map edge_bytes es) = f0.1 ∙ ap (λ l. n ∷ l) (f1.1 ∙ ap (λ l. m ∷ l) (f2.2 ∙ ap (λ l. flat_map node_bytes ns ++ l) (f3.2 ∙ ap (λ l. flat_map edge_bytes es ++ l) none ∙ append-nil (flat_map edge_bytes es)))) in
     from_got (λ c j. InRange c × (bs ≡ encode c)) f (
-      record { nodes_low = omega (arith, f0.0.0, f2.0); nodes_high = omega (arith, f0.0.1, f2.0); edges_low = omega (arith, f1.0.0, f3.0); edges_high = omega (arith, f1.0.1, f3.0); nodes = f2.1; edges = subst (λ k. AllIn (EdgeIn k) es) (sym f2.0) f3.1 },
+      record { nodes_low = omega (arith, f0.0.0, f2.0); nodes_high = omega (arith, f0.0.1, f2.0); edges_low = omega (arith, f1.0.0, f3.0); edges_high = omega (arith, f1.0.1, f3.0); nodes = f2.1; edges = subst (λ k. AllByRecursion (EdgeIn k) es) (sym f2.0) f3.1 },
       cc (whole, f2.0, f3.0),
     ))))))
 
@@ -468,10 +451,10 @@ pub chart-reads : (bs : List ℕ) (c : Parts) → InRange c → bs ≡ encode c 
 chart-reads bs c h e =
     let n = length c.nodes in
     let m = length c.edges in
-    to ((count_exact 2 32).reads bs 0 n (m ∷ (all node_bytes c.nodes ++ (all edge_bytes c.edges ++ []))) (h.nodes_low, h.nodes_high) (e ∙ simp append-nil)) (λ j0 p0 at0.
-    to ((count_exact 1 64).reads bs j0 m (all node_bytes c.nodes ++ (all edge_bytes c.edges ++ [])) (h.edges_low, h.edges_high) at0) (λ j1 p1 at1.
-    to (many_reads node_exact bs j1 c.nodes (all edge_bytes c.edges ++ []) h.nodes at1) (λ j2 p2 at2.
-    to (many_reads (edge_exact n h.nodes_high) bs j2 c.edges [] h.edges at2) (λ j3 p3 at3.
+    to ((count_exact 2 32 (omega arith)).reads bs 0 n (m ∷ (flat_map node_bytes c.nodes ++ (flat_map edge_bytes c.edges ++ []))) (h.nodes_low, h.nodes_high) (e ∙ simp append-nil)) (λ j0 p0 at0.
+    to ((count_exact 1 64 (omega arith)).reads bs j0 m (flat_map node_bytes c.nodes ++ (flat_map edge_bytes c.edges ++ [])) (h.edges_low, h.edges_high) at0) (λ j1 p1 at1.
+    to (many_reads node_exact bs j1 c.nodes (flat_map edge_bytes c.edges ++ []) h.nodes at1) (λ j2 p2 at2.
+    to (many_reads (edge_exact n) bs j2 c.edges [] h.edges at2) (λ j3 p3 at3.
     on (count 2 32 bs 0) _ p0 (on (count 1 64 bs j0) _ p1 (on (many node n bs j1) _ p2 (on (many (edge n) m bs j2) _ p3 (no_on (ltb j3 (length bs)) _ _ (spent j3 bs at3) refl))))))))
 
 pub accepts : Accepts

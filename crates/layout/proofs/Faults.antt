@@ -1,5 +1,6 @@
 -- What a reader expected where it refuses: the items of some value in range, of which the first stand there and the next is wrong.
 use Rattle.std.proofs.Common.{◌≡◌, ℕ, ◌+◌, ◌-◌, ◌<◌, ◌≤◌, Bool, true, false, cond, ◌⊎◌, List, [], ◌∷◌, ◌++◌, length, take, drop, sym, refl, ap, ◌∙◌, inl, inr, ⊎_elim, append_assoc, append-nil, arith, length-drop, take-append-drop, le-ltb, lt-ltb}
+use Rattle.std.proofs.lemmas.List.Concat.{flat_map-append}
 use Rattle.std.proofs.str.Laws.{order}
 use Rattle.layout.specs.declared.refusal.Fault.{Fault}
 use Rattle.layout.specs.declared.refusal.Fault.TheVariants.{Short}
@@ -14,10 +15,6 @@ pub clash : {A P : Type 0} (o : Out A) (v : A) (j : ℕ) (e : Refusal) → o ≡
 clash o v j e p q = absurd (let z : ◌≡◌ {A = ℕ} 0 1 = cc in omega arith)
 
 -- ---- items one after the other
-
-pub flat_append : (xs ys : List Item) → flat (xs ++ ys) ≡ flat xs ++ flat ys
-flat_append [] ys = refl
-flat_append (x ∷ xs) ys = ap (λ l. x.1 ++ l) (flat_append xs ys) ∙ sym (append_assoc x.1 (flat xs) (flat ys))
 
 -- What is wrong where the items are expected, the bytes r being the last of L: as Wrong has it, where bytes may be left
 -- over only if End.
@@ -58,7 +55,7 @@ behind ws h f =
       back = f.back;
       r = f.r;
       split = ap (λ l. ws ++ l) f.split ∙ sym (append_assoc ws f.front f.back);
-      stand = h ∙ ap (λ l. flat ws ++ l) f.stand ∙ sym (append_assoc (flat ws) (flat f.front) f.r) ∙ ap (λ l. l ++ f.r) (sym (flat_append ws f.front));
+      stand = h ∙ ap (λ l. flat ws ++ l) f.stand ∙ sym (append_assoc (flat ws) (flat f.front) f.r) ∙ ap (λ l. l ++ f.r) (sym (flat_map-append (λ x. x.1) ws f.front));
       wrong = f.wrong;
     }
 
@@ -78,9 +75,6 @@ module _ {A C : Type 0} {End : Type 0} {L : ℕ} {rest : List ℕ} {it : A → L
   -- a value is no refusal
   pub ends : (x : C) (j : ℕ) → (v : A) × In v → Refuses End L rest (got x j) it In
   ends x j d = record { some = d; faults = λ e q. clash (got x j) x j e refl q }
-
-  pub equal_out : {o s : Out C} → o ≡ s → Refuses End L rest s it In → Refuses End L rest o it In
-  equal_out h x = record { some = x.some; faults = λ e q. x.faults e (sym h ∙ q) }
 
   -- the same items as those of another value
   pub likewise : {B : Type 0} {it' : B → List Item} {In' : B → Type 0} {o : Out C} → Refuses End L rest o it In → ((v : A) → In v → (w : B) × In' w × (it v ≡ it' w)) → Refuses End L rest o it' In'

@@ -1,4 +1,5 @@
 pub mod Sets
+pub mod Fits
 pub mod Exact
 pub mod Faults
 pub mod Completions

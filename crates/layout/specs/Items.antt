@@ -1,5 +1,6 @@
 -- The items of which the bytes of a chart are made, in their order.
 use Rattle.std.specs.Prelude.{◌≡◌, ℕ, ◌≤◌, List, [], ◌∷◌, ◌++◌, length}
+use Rattle.std.specs.List.{flat_map}
 use Rattle.layout.specs.declared.parts.Node.{Node}
 use Rattle.layout.specs.declared.parts.NodeSet.{NodeSet}
 use Rattle.layout.specs.declared.parts.RawEdge.{RawEdge}
@@ -8,7 +9,7 @@ use Rattle.layout.specs.declared.parts.Guard.{Guard}
 use Rattle.layout.specs.declared.refusal.Fault.{Fault}
 use Rattle.layout.specs.declared.refusal.Fault.TheVariants.{Count, Map, Field}
 use Rattle.layout.specs.Reader.{Parts}
-use Rattle.layout.specs.Layout.{one, wide, flag, optional, all, conditions, condition_bytes, edge_map_of, ConditionIn, SetIn}
+use Rattle.layout.specs.Layout.{one, wide, flag, optional, conditions, condition_bytes, edge_map_of, ConditionIn, SetIn}
 
 -- the sorts of items; a condition and a set of nodes are judged by the number of nodes
 pub data Sort : Type 0 where
@@ -76,7 +77,7 @@ abbrev pub node_items : Node → List Item
 node_items n = (node_map, one (flag n.activity)) ∷ optional (item activity one) n.activity
 
 abbrev pub guard_items : ℕ → Guard → List Item
-guard_items n g = (guard_count, one (length (conditions g))) ∷ all (item (condition n) condition_bytes) (conditions g)
+guard_items n g = (guard_count, one (length (conditions g))) ∷ flat_map (item (condition n) condition_bytes) (conditions g)
 
 abbrev pub edge_items : ℕ → RawEdge → List Item
 edge_items n e =
@@ -84,9 +85,8 @@ edge_items n e =
     ∷ (optional (item event one) e.trigger ++ (optional (item after wide) e.after ++ (optional (item when wide) e.when ++ (optional (guard_items n) e.guard ++ (optional (item event one) e.send ++ (item (node_set n) wide e.sources.bits ++ item (node_set n) wide e.targets.bits))))))
 
 abbrev pub items : Parts → List Item
-items c = (node_count, one (length c.nodes)) ∷ (edge_count, one (length c.edges)) ∷ (all node_items c.nodes ++ all (edge_items (length c.nodes)) c.edges)
+items c = (node_count, one (length c.nodes)) ∷ (edge_count, one (length c.edges)) ∷ (flat_map node_items c.nodes ++ flat_map (edge_items (length c.nodes)) c.edges)
 
 -- the bytes of items that stand one after the other
 abbrev pub flat : List Item → List ℕ
-flat [] = []
-flat (x ∷ xs) = x.1 ++ flat xs
+flat xs = flat_map (λ x. x.1) xs

@@ -1,5 +1,6 @@
 -- The layout: which bytes a chart is written as, and which charts are in range.
 use Rattle.std.specs.Prelude.{◌≡◌, ℕ, ◌+◌, ◌*◌, ◌/◌, ◌%◌, ◌^◌, ◌<◌, ◌≤◌, List, [], ◌∷◌, ◌++◌, length, Some, None, Option, count_ones, slice_index}
+use Rattle.std.specs.List.{flat_map, AllByRecursion}
 use Rattle.layout.specs.declared.parts.Node.{Node}
 use Rattle.layout.specs.declared.parts.NodeSet.{NodeSet}
 use Rattle.layout.specs.declared.parts.RawEdge.{RawEdge}
@@ -16,6 +17,7 @@ wide v = v / 16777216 ∷ v / 65536 % 256 ∷ v / 256 % 256 ∷ v % 256 ∷ []
 abbrev pub one : ℕ → List ℕ
 one v = v ∷ []
 
+-- what a value is written as, if it stands
 abbrev pub optional : {A B : Type 0} → (A → List B) → Option A → List B
 optional enc None = []
 optional enc (Some v) = enc v
@@ -24,10 +26,6 @@ optional enc (Some v) = enc v
 abbrev pub flag : {A : Type 0} → Option A → ℕ
 flag None = 0
 flag (Some v) = 1
-
-abbrev pub all : {A B : Type 0} → (A → List B) → List A → List B
-all enc [] = []
-all enc (x ∷ xs) = enc x ++ all enc xs
 
 abbrev pub node_bytes : Node → List ℕ
 node_bytes n = flag n.activity ∷ optional one n.activity
@@ -46,7 +44,7 @@ conditions (Three a b c) = a ∷ b ∷ c ∷ []
 conditions (Four a b c d) = a ∷ b ∷ c ∷ d ∷ []
 
 abbrev pub guard_bytes : Guard → List ℕ
-guard_bytes g = length (conditions g) ∷ all condition_bytes (conditions g)
+guard_bytes g = length (conditions g) ∷ flat_map condition_bytes (conditions g)
 
 -- the map byte of an edge: sources and targets always stand
 abbrev pub edge_map_of : RawEdge → ℕ
@@ -58,17 +56,14 @@ edge_bytes e =
     ∷ (optional one e.trigger ++ (optional wide e.after ++ (optional wide e.when ++ (optional guard_bytes e.guard ++ (optional one e.send ++ (wide e.sources.bits ++ wide e.targets.bits))))))
 
 abbrev pub encode : Parts → List ℕ
-encode c = length c.nodes ∷ length c.edges ∷ (all node_bytes c.nodes ++ all edge_bytes c.edges)
+encode c = length c.nodes ∷ length c.edges ∷ (flat_map node_bytes c.nodes ++ flat_map edge_bytes c.edges)
 
 -- ---- which are in range
 
+-- a value, if it stands, is in range
 abbrev pub OptIn : {A : Type 0} → (A → Type 0) → Option A → Type 0
 OptIn P None = Unit {0}
 OptIn P (Some v) = P v
-
-abbrev pub AllIn : {A : Type 0} → (A → Type 0) → List A → Type 0
-AllIn P [] = Unit {0}
-AllIn P (x ∷ xs) = P x × AllIn P xs
 
 abbrev pub NodeIn : Node → Type 0
 NodeIn n = OptIn (λ v. v ≤ 63) n.activity
@@ -87,7 +82,7 @@ ConditionIn n (Absent a) = a ≤ 15
 ConditionIn n (HoldsToken k) = k < n
 
 abbrev pub GuardIn : ℕ → Guard → Type 0
-GuardIn n g = AllIn (ConditionIn n) (conditions g)
+GuardIn n g = AllByRecursion (ConditionIn n) (conditions g)
 
 pub record EdgeIn (n : ℕ) (e : RawEdge) : Type 0 where
   pub trigger : OptIn (λ v. v ≤ 31) e.trigger
@@ -103,8 +98,8 @@ pub record InRange (c : Parts) : Type 0 where
   pub nodes_high : length c.nodes ≤ 32
   pub edges_low : 1 ≤ length c.edges
   pub edges_high : length c.edges ≤ 64
-  pub nodes : AllIn NodeIn c.nodes
-  pub edges : AllIn (EdgeIn (length c.nodes)) c.edges
+  pub nodes : AllByRecursion NodeIn c.nodes
+  pub edges : AllByRecursion (EdgeIn (length c.nodes)) c.edges
 
 -- each is a byte
 abbrev pub Bytes : List ℕ → Type 0

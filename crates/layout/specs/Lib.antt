@@ -1,4 +1,5 @@
 pub mod Sets
+pub mod Fits
 pub mod Numbers
 pub mod Reader
 pub mod Records

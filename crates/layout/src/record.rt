@@ -2,7 +2,9 @@
 ghost use Rattle.std.specs.Prelude.{◌≡◌};
 ghost use Rattle.layout.specs.Records.{place_of, bytes_of};
 
-// A node's or an edge's record: the part of the chart's bytes that it is, and the place where that part begins.
+// A node's or an edge's record: the part of the chart's bytes that it is, and the place where that part begins. It has two
+// cases, with the same fields, since the law of reading says of which kind each piece is, and whoever is handed a record
+// alone, without the value that was read from it, is told so.
 #[derive(Clone, Copy)]
 pub enum Record<'a> {
     Node { bytes: &'a [u8], place: usize },
@@ -15,8 +17,7 @@ impl<'a> Record<'a> {
         ensures { result ≡ place_of self.now }
     {
         match *self {
-            Record::Node { bytes: _, place } => place,
-            Record::Edge { bytes: _, place } => place,
+            Record::Node { place, .. } | Record::Edge { place, .. } => place,
         }
     }
 
@@ -25,8 +26,14 @@ impl<'a> Record<'a> {
         ensures { result.now ≡ bytes_of self.now }
     {
         match *self {
-            Record::Node { bytes, place: _ } => bytes,
-            Record::Edge { bytes, place: _ } => bytes,
+            Record::Node { bytes, .. } | Record::Edge { bytes, .. } => bytes,
         }
     }
+}
+
+// A value that was read from a chart's bytes, and the record that it stands in.
+#[derive(Clone, Copy)]
+pub struct Parsed<'a, T> {
+    pub value: T,
+    pub record: Record<'a>,
 }

@@ -5,19 +5,19 @@ ghost use Rattle.layout.specs.declared.refusal.ReadError.TheVariants.{Invalid, M
 
 use std::alloc::AllocFailed;
 
-// What is wrong with the bytes.
+// What is wrong with the bytes, by the number by which it is reported.
 #[derive(Clone, Copy)]
 pub enum Fault {
     // the bytes end too early
-    Short,
+    Short = 11,
     // the number of nodes or of edges is out of range
-    Count,
+    Count = 12,
     // a map has a wrong bit, or lacks one
-    Map,
+    Map = 13,
     // a field, a guard's count or a condition is out of range
-    Field,
+    Field = 14,
     // bytes are left over
-    Left,
+    Left = 15,
 }
 
 impl Fault {
@@ -25,13 +25,15 @@ impl Fault {
     pub fn number(self) -> u8
         ensures { result ≡ fault_number self }
     {
-        match self {
-            Fault::Short => 11,
-            Fault::Count => 12,
-            Fault::Map => 13,
-            Fault::Field => 14,
-            Fault::Left => 15,
-        }
+        self as u8
+    }
+
+    // The refusal of bytes that have this fault at the place.
+    pub fn at(self, place: usize) -> Refusal
+        ensures fault { result.fault ≡ self }
+        ensures place { result.place ≡ place }
+    {
+        Refusal { fault: self, place }
     }
 }
 

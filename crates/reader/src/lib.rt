@@ -2,5 +2,6 @@
 #![tactic(auto)]
 
 mod cursor;
+mod decode;
 pub mod read;
 mod records;

@@ -1,76 +1,64 @@
-// Walks over many records, and hands each on as a part of the chart's bytes.
-ghost use Rattle.std.specs.Prelude.{◌≡◌, ℕ, ◌≤◌, length};
-ghost use Rattle.layout.specs.Reader.{node as node_at, edge as edge_at};
-ghost use Rattle.layout.specs.Records.{node_piece, edge_piece};
+// Walks over many records, and hands each on with what it says.
+ghost use Rattle.std.specs.Prelude.{◌≡◌, ℕ, List};
+ghost use Rattle.layout.specs.Records.{Piece, piece, node_piece, edge_piece};
 ghost use Rattle.reader.specs.Walk.{Hands, HandsAll};
 
 use super::cursor::Cursor;
+use super::decode::Decode;
 use layout::parts::{Node, RawEdge};
-use layout::record::Record;
+use layout::record::{Parsed, Record};
 use layout::refusal::{ReadError, Refusal};
 use std::alloc::Global;
 
-impl<'a> Cursor<'a> {
-    // The next node, and the record that it is.
-    fn node_record(&mut self) -> Result<(Node, Record<'a>), Refusal>
-        requires { self.old.place ≤ length self.old.bytes.now }
-        ensures { Hands node_at node_piece self.old self.new result }
-    {
-        let place = self.place;
-        let node = self.node()?;
-        let bytes = &self.bytes[place..self.place];
-        Ok((node, Record::Node { bytes, place }))
-    }
+// A part of a chart that has a record of its own.
+pub(crate) trait Recorded: Decode {
+    ghost piece_of: { ℕ → List ℕ → Piece };
 
-    // The next edge, and the record that it is.
-    fn edge_record(&mut self, nodes: u8) -> Result<(RawEdge, Record<'a>), Refusal>
-        requires nodes { nodes ≤ 32 }
-        requires within { self.old.place ≤ length self.old.bytes.now }
-        ensures { Hands (edge_at nodes) edge_piece self.old self.new result }
-    {
-        let place = self.place;
-        let edge = self.edge(nodes)?;
-        let bytes = &self.bytes[place..self.place];
-        Ok((edge, Record::Edge { bytes, place }))
-    }
+    fn record(bytes: &[u8], place: usize) -> Record<'_>
+        ensures { piece result ≡ piece_of place bytes.now };
+}
 
-    // As many nodes, each with its record.
-    pub(crate) fn nodes(
-        &mut self,
-        heap: Global,
-        count: u8,
-    ) -> Result<(Vec<Node>, Vec<Record<'a>>), ReadError>
-        requires { self.old.place ≤ length self.old.bytes.now }
-        ensures { HandsAll node_at node_piece count self.old self.new result }
-    {
-        let mut nodes = Vec::new(heap);
-        let mut records = Vec::new(heap);
-        for _i in 0..count {
-            let (node, record) = self.node_record()?;
-            nodes.push(node)?;
-            records.push(record)?;
-        }
-        Ok((nodes, records))
-    }
+impl Recorded for Node {
+    ghost piece_of = { node_piece };
 
-    // As many edges, each with its record.
-    pub(crate) fn edges(
-        &mut self,
-        heap: Global,
-        nodes: u8,
-        count: u8,
-    ) -> Result<(Vec<RawEdge>, Vec<Record<'a>>), ReadError>
-        requires nodes { nodes ≤ 32 }
-        requires within { self.old.place ≤ length self.old.bytes.now }
-        ensures { HandsAll (edge_at nodes) edge_piece count self.old self.new result }
-    {
-        let mut edges = Vec::new(heap);
-        let mut records = Vec::new(heap);
-        for _i in 0..count {
-            let (edge, record) = self.edge_record(nodes)?;
-            edges.push(edge)?;
-            records.push(record)?;
-        }
-        Ok((edges, records))
+    fn record(bytes: &[u8], place: usize) -> Record<'_> {
+        Record::Node { bytes, place }
     }
+}
+
+impl Recorded for RawEdge {
+    ghost piece_of = { edge_piece };
+
+    fn record(bytes: &[u8], place: usize) -> Record<'_> {
+        Record::Edge { bytes, place }
+    }
+}
+
+// The next record, and what it says.
+fn parsed<'a, T: Recorded>(
+    cursor: &mut Cursor<'a>,
+    limits: T::Limits,
+) -> Result<Parsed<'a, T>, Refusal>
+    ensures { Hands (T.part_at limits) T.piece_of cursor.old cursor.new result }
+{
+    let place = cursor.place;
+    let value = T::decode(cursor, limits)?;
+    let record = T::record(&cursor.bytes[place..cursor.place], place);
+    Ok(Parsed { value, record })
+}
+
+// As many records, each with what it says. Not by `collect`, which does not tell that it fails where a record does.
+pub(crate) fn all_parsed<'a, T: Recorded + Drop>(
+    heap: Global,
+    cursor: &mut Cursor<'a>,
+    limits: T::Limits,
+    count: u8,
+) -> Result<Vec<Parsed<'a, T>>, ReadError>
+    ensures { HandsAll (T.part_at limits) T.piece_of count cursor.old cursor.new result }
+{
+    let mut all = Vec::new(heap);
+    for _i in 0..count {
+        all.push(parsed(cursor, limits)?)?;
+    }
+    Ok(all)
 }

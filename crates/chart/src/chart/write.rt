@@ -16,30 +16,17 @@ impl Chart {
         ensures { IfOk result (λ v. v.items ≡ encode (parts_of self.now)) }
     {
         let edges = raw_edges(heap, &self.edges)?;
-        encoded(heap, self, &edges)
-    }
-}
-
-// The chart's bytes, given its edges as they stand there.
-fn encoded(heap: Global, chart: &Chart, edges: &[RawEdge]) -> Result<Vec<u8>, AllocError>
-    requires { edges.now ≡ map raw_of chart.now.edges.items }
-    ensures { IfOk result (λ v. v.items ≡ encode (parts_of chart.now)) }
-{
-    match encoder::write(heap, &chart.nodes, edges) {
-        Ok(bytes) => Ok(bytes),
-        Err(error) => match error {
+        // No `From`: `TooMany` cannot come of a chart, and only here that is known.
+        encoder::write(heap, &self.nodes, &edges).map_err(|error| match error {
             WriteError::TooMany => unreachable(),
-            WriteError::Memory => Err(AllocError),
-        },
+            WriteError::Memory => AllocError,
+        })
     }
 }
 
+// The edges as they stand in the bytes.
 fn raw_edges(heap: Global, edges: &[Edge]) -> Result<Vec<RawEdge>, AllocError>
     ensures { IfOk result (λ v. v.items ≡ map raw_of edges.now) }
 {
-    let mut raw = Vec::new(heap);
-    for edge in edges {
-        raw.push(edge.raw())?;
-    }
-    Ok(raw)
+    edges.iter().map(Edge::raw).collect(heap)
 }

@@ -1,5 +1,12 @@
-use Rattle.hex_text.proofs.Steps.{Inv}
+use Rattle.std.proofs.Common.{◌≡◌, vec_items}
+use Rattle.hex_text.specs.Bytes.{left}
+use Rattle.hex_text.specs.Meaning.{before, said, meaning}
 use Rattle.hex_text.proofs.text.bytes_of.Given as goal
 
-abbrev pub invariant-loop-character : goal.invariant-loop-character
-invariant-loop-character l = Inv l.text l.bytes l.reader l.character-index
+abbrev pub invariant-loop-byte : goal.invariant-loop-byte
+invariant-loop-byte l =
+    record {
+      can_next : goal.iterator-loop-byte.can_next l.byte-iterator;
+      is_finite : goal.iterator-loop-byte.is_finite l.byte-iterator;
+      so_far : before (vec_items l.bytes) (said (left l.byte-iterator)) ≡ meaning l.text;
+    }

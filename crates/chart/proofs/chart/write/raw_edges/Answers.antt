@@ -1,16 +1,7 @@
-use Rattle.std.proofs.Common.{[], ◌∷◌, ◌++◌, map, take, sym, ap, ◌∙◌}
-use Rattle.std.proofs.lemmas.List.{map_more, take_all}
+use Rattle.std.proofs.Common.{rules, tests}
+use Rattle.std.proofs.lemmas.Iterator.{YieldsList-from_slice, YieldsList-from_map, items_from_collect}
 use Rattle.chart.specs.Edges.{raw_of}
 use Rattle.chart.proofs.chart.write.raw_edges.Goals as goal
 
-pub loop-edge-preserved : goal.loop-edge-preserved
-loop-edge-preserved c =
-    let es = c.args.edges.now in
-    let i = c.loop-edge.edge-index in
-    c.in_ok-push.ensures.items
-    ∙ ap (λ l. l ++ c.raw.result ∷ []) c.loop-edge.invariant
-    ∙ ap (λ x. map raw_of (take i es) ++ x ∷ []) c.raw.ensures
-    ∙ sym (map_more raw_of es i _ c.loop-edge-test.true)
-
 pub returns : goal.returns
-returns c = c.loop-edge.invariant ∙ ap (map raw_of) (take_all c.loop-edge.edge-index c.args.edges.now c.loop-edge-test.false)
+returns c = items_from_collect c.collect.result c.collect.ensures.ran (YieldsList-from_map _ raw_of (YieldsList-from_slice c.args.edges.now cc) c.map.ensures.closure (λ x r q k. search (rules, tests)))
