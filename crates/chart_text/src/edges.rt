@@ -21,8 +21,8 @@ impl fmt::Display for Words<Cause> {
     }
 }
 
-// The nodes of a set, in rising order. The loop asks `has` itself: of a `for` over a `filter` the check makes a statement
-// here that is ill-typed, since this method is generic and the closure borrows, or takes, the set.
+// The nodes of a set, in rising order. The loop asks `has` itself: of a `for` over a `filter` in this method the check
+// makes a statement that is ill-typed, so it leaves nothing to prove.
 impl fmt::Display for Words<NodeSet> {
     ghost output = { λ w. Some (set_words w.0.bits) };
 

@@ -9,4 +9,8 @@ pub mod ClockLaws
 pub mod State
 pub mod Steps
 pub mod Calls
+pub mod Accounts
+pub mod RunLaw
+pub mod Samples
+pub mod WrongRuns
 pub mod Questions

@@ -3,5 +3,8 @@
 
 pub mod call;
 pub mod clock;
+pub mod clock_laws;
 pub mod event;
+pub mod laws;
 pub mod refusal;
+pub mod samples;
