@@ -39,7 +39,7 @@ module _ (c : Graph) (rules : Rules c) (rank : ℕ → ℕ) (s : State) (sound :
   written room (Ok None) h = tt
   written room (Ok (Some done)) h =
       let f = took_all c rules rank s sound room done h in
-      let all = take_buffer (taken c rank done.event s) (omega (arith, f.edges, f.few)) in
+      let all = take_buffer (taken c rank done.event s) (omega (arith, f.edges, f.few_edges)) in
       ap (λ k. take k (buffer_of (taken c rank done.event s))) (sym f.edges) ∙ all
   written room (Err e) h = tt
 

@@ -48,7 +48,7 @@ count_same p q P f (x ∷ xs) a = grind (arith, count-cons p x xs, count-cons q 
 
 -- SUMS BELOW A NUMBER
 
-total_add : (f g h : ℕ → ℕ) (n : ℕ) → ((k : ℕ) → f k ≡ g k + h k) → total f n ≡ total g n + total h n
+pub total_add : (f g h : ℕ → ℕ) (n : ℕ) → ((k : ℕ) → f k ≡ g k + h k) → total f n ≡ total g n + total h n
 unfolding total
 total_add f g h zero e = refl
 total_add f g h (suc n) e = omega (arith, e n, total_add f g h n e)

@@ -74,12 +74,12 @@ module _ (c : Graph) (rules : Rules c) where
 abbrev pub Enough : Graph → List ℕ → State → Type 0
 Enough c xs s = (n : ℕ) → n < c.nodes → leaving c xs n ≤ available c s n
 
-record Fits (c : Graph) (s : State) : Type 0 where
+pub record Fits (c : Graph) (s : State) : Type 0 where
   pub tokens : total s.tokens c.nodes ≤ 64
   pub events : length s.events ≤ 256
   pub next : s.next ≤ 65536
 
-fits_all : (c : Graph) (s : State) → overflow c s ≡ None → Fits c s
+pub fits_all : (c : Graph) (s : State) → overflow c s ≡ None → Fits c s
 fits_all c s f = record { tokens = grind (arith, nat_tests); events = grind (arith, nat_tests); next = grind (arith, nat_tests) }
 
 module _ (c : Graph) where

@@ -11,7 +11,9 @@ use Rattle.model.specs.State.{State}
 use Rattle.model.specs.Calls.{opening, recorded, Answers, Run}
 use Rattle.model.specs.Calls.Run.{done as ended, next as further}
 use Rattle.model.specs.Entries.{taken_by}
-use Rattle.model.specs.Samples.{Samples, alike, unmoved, no_facts, bill, bill_log, billed, circle, circle_log, circled, guarded, guarded_log, guarded_after, early_log, early_after, dated, dated_log, dated_after}
+use Rattle.model.specs.Accounts.{account}
+use Rattle.model.specs.Limits.{Limits}
+use Rattle.model.specs.Samples.{Samples, alike, unmoved, no_facts, bill, bill_log, billed, circle, circle_log, circled, guarded, guarded_log, guarded_after, early_log, early_after, dated, dated_log, dated_after, sending, sending_log, kinds_log}
 
 -- RULES
 
@@ -128,6 +130,33 @@ dates =
     (call dated _ _ _ _ (refl, refl) (tt, refl, refl)
     (call dated _ _ _ _ (refl, tt) refl ended))))))))
 
+sending_rules : Rules sending
+unfolding total all_below
+sending_rules = rules_by sending refl refl refl refl
+
+sends : Run sending alike unmoved (opening 100 no_facts) tt sending_log (account sending (opening 100 no_facts) sending_log) tt
+unfolding total least room
+sends =
+    call sending _ _ _ _ (refl, refl) (tt, refl, refl)
+    (call sending _ _ _ _ (refl, refl) refl
+    (call sending _ _ _ _ (refl, refl) refl
+    (call sending _ _ _ _ refl refl
+    (call sending _ _ _ _ (refl, refl) (tt, refl, refl)
+    (call sending _ _ _ _ (refl, refl) (tt, refl, refl)
+    (call sending _ _ _ _ (refl, refl) refl
+    (call sending _ _ _ _ (refl, tt) refl ended)))))))
+
+by_kind : Run sending alike unmoved (opening 100 no_facts) tt kinds_log (account sending (opening 100 no_facts) kinds_log) tt
+unfolding total least room
+by_kind =
+    call sending _ _ _ _ refl refl
+    (call sending _ _ _ _ refl refl
+    (call sending _ _ _ _ (refl, refl) (tt, refl, refl)
+    (call sending _ _ _ _ (refl, refl) refl
+    (call sending _ _ _ _ (refl, refl) refl
+    (call sending _ _ _ _ (refl, refl) refl
+    (call sending _ _ _ _ (refl, refl) (tt, refl, refl) ended))))))
+
 pub samples : Samples
 unfolding total least room
 samples = record {
@@ -148,6 +177,8 @@ samples = record {
   guards = guards;
   early = early;
   plain_guarded = refl;
+  plain_watching = refl;
+  watching_unknown = refl;
   plain_alone = refl;
   triggered = refl;
   timed = refl;
@@ -160,4 +191,29 @@ samples = record {
   dates = dates;
   dated_clock = refl;
   dated_once = refl;
+  sending_rules = sending_rules;
+  sends = sends;
+  by_kind = by_kind;
+}
+
+pub limits : Limits
+unfolding total
+limits = record {
+  opening_moment = refl;
+  opening_first = refl;
+  post_event = refl;
+  post_waiting = refl;
+  post_first = refl;
+  tell_attribute = refl;
+  tell_waiting = refl;
+  tell_first = refl;
+  report_waiting = refl;
+  report_first = refl;
+  tick_moment = refl;
+  turn_room = refl;
+  turn_tokens = refl;
+  turn_events = refl;
+  turn_orders = refl;
+  turn_first = refl;
+  turn_second = refl;
 }

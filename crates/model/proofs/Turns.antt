@@ -8,12 +8,13 @@ use Rattle.model.specs.declared.refusal.Refusal.TheVariants.{ShortBuffer}
 use Rattle.model.specs.declared.call.Routed.{Routed}
 use Rattle.model.specs.Graph.{Graph, Rules}
 use Rattle.model.specs.State.{State, Sound}
-use Rattle.model.specs.Steps.{event_of, routed, basis, taken, new_orders, moved, overflow, unless, answer_to, turn}
+use Rattle.model.specs.Steps.{event_of, routed, basis, taken, new_orders, tokens_moved, moved, overflow, unless, answer_to, turn}
 use Rattle.model.specs.Calls.{Written}
 use Rattle.model.specs.RunLaw.{FairTurn, Routes}
 use Rattle.model.proofs.Counts.{total_le}
+use Rattle.model.proofs.Places.{new_orders_le}
 use Rattle.model.proofs.Choices.{lawful, short}
-use Rattle.model.proofs.Movement.{available_le, routed_sound}
+use Rattle.model.proofs.Movement.{available_le, routed_sound, fits_all}
 
 not_idle : (o : Option Refusal) (d : Routed) → Ok None ≡ unless o d → ⊥
 not_idle None d h = grind arith
@@ -36,6 +37,7 @@ module _ (c : Graph) (rules : Rules c) (rank : ℕ → ℕ) (s : State) (sound :
       let now = routed_sound c rules s done.event found sound in
       let b = basis c done.event (routed done.event s) in
       let ys = taken c rank done.event s in
+      let zs = taken c rank ev s in
       let all : ys ≡ taken c rank ev s = ap (λ v. taken c rank v s) same in
       let many : length ys ≡ done.edges = ap length all ∙ sym (ap (λ d. d.edges) e) in
       record {
@@ -44,7 +46,8 @@ module _ (c : Graph) (rules : Rules c) (rank : ℕ → ℕ) (s : State) (sound :
         choice = lawful b rank;
         orders = ap (λ d. d.orders) e ∙ ap (new_orders c) (sym all);
         fits = subst (λ v. overflow c (moved c (taken c rank v s) (routed v s)) ≡ None) (sym same) f;
-        few = omega (arith, many, short b rank ys rules.sourced (lawful b rank), total_le b.available s.tokens c.nodes (available_le c (routed done.event s) now), sound.tokens);
+        few_edges = omega (arith, many, short b rank ys rules.sourced (lawful b rank), total_le b.available s.tokens c.nodes (available_le c (routed done.event s) now), sound.tokens);
+        few_orders = omega (arith, ap (λ d. d.orders) e, new_orders_le c zs (tokens_moved c zs (routed ev s)) (λ n l. omega arith), (fits_all c (moved c zs (routed ev s)) f).tokens);
       }
 
   took_some : (o : Option Event) (done : Routed) → event_of s ≡ o → Ok (Some done) ≡ answer_to c rank o s → FairTurn c rank s done (taken c rank done.event s)

@@ -3,7 +3,7 @@ use Rattle.std.proofs.Common.{◌≡◌, ℕ, zero, suc, ◌<◌, true, false, �
 use Rattle.desk.specs.Orders.{look_up}
 use Rattle.model.specs.declared.event.Event.{Event}
 use Rattle.model.specs.declared.event.Event.TheVariants.{Completion, Named, Ring}
-use Rattle.model.specs.declared.refusal.Refusal.TheVariants.{EventsWaiting}
+use Rattle.model.specs.declared.refusal.Refusal.TheVariants.{EventsWaiting, OrderNotOpen}
 use Rattle.model.specs.declared.call.Change.TheVariants.{Changed}
 use Rattle.model.specs.declared.call.Entry.{Entry}
 use Rattle.model.specs.declared.call.Entry.TheVariants.{Post, Tell, Report}
@@ -16,8 +16,8 @@ use Rattle.model.specs.Calls.{opening, Run}
 use Rattle.model.specs.Calls.Run.{done as ended}
 use Rattle.model.specs.Accounts.{account}
 use Rattle.model.specs.RunLaw.{Fair, FairTurn, RunLaw}
-use Rattle.model.specs.Samples.{no_facts, alike, unmoved, buffer, took, idle, bill}
-use Rattle.model.specs.WrongRuns.{Obeys, Refused, split, split_log, joined_log, backwards, by_number, counting, held, held_log, sent_log, sent_twice, WrongRuns}
+use Rattle.model.specs.Samples.{no_facts, alike, unmoved, buffer, took, idle, bill, guarded}
+use Rattle.model.specs.WrongRuns.{Obeys, Refused, split, split_log, joined_log, backwards, by_number, counting, held, held_log, rivals, sent_log, sent_twice, WrongRuns}
 use Rattle.model.proofs.SampleRuns.{call}
 
 module _ (c : Graph) (log : List Entry) (t : State) (h : Obeys c log t) where
@@ -88,11 +88,11 @@ takes_both =
     (call split _ _ _ _ (refl, refl) (tt, refl, (tt, refl, refl))
     (call split _ _ _ _ (refl, refl) (tt, refl, (tt, refl, refl)) ended))
 
-takes_waiting_edge : Refused bill (took (Completion 0) (2 ∷ []) 0 ∷ [])
-takes_waiting_edge t h = omega (arith, (turned bill _ t h 0 (Completion 0) (2 ∷ []) 0 refl).choice.few 2 (omega arith))
+takes_waiting_edge : Refused bill (sent_log (took (Completion 2) (2 ∷ []) 0 ∷ []))
+takes_waiting_edge t h = omega (arith, (turned bill _ t h 3 (Completion 2) (2 ∷ []) 0 refl).choice.few 2 (omega arith))
 
-takes_token_twice : Refused bill (took (Completion 0) (0 ∷ 0 ∷ []) 2 ∷ [])
-takes_token_twice t h = omega (arith, (turned bill _ t h 0 (Completion 0) (0 ∷ 0 ∷ []) 2 refl).choice.covered 0 (omega arith))
+takes_token_twice : Refused rivals (took (Completion 0) (0 ∷ []) 0 ∷ took (Completion 1) (1 ∷ 2 ∷ []) 0 ∷ [])
+takes_token_twice t h = omega (arith, (turned rivals _ t h 1 (Completion 1) (1 ∷ 2 ∷ []) 0 refl).choice.covered 1 (omega arith))
 
 mixes_edges : Refused split (split_log (2 ∷ 1 ∷ []))
 mixes_edges t h =
@@ -110,9 +110,9 @@ tells_no_policy t h =
     let b = (h.fair 1 (took (Completion 1) (1 ∷ 2 ∷ []) 0) refl).told in
     omega (arith, h.first, h.last, a.1, a.2, b.1, b.2.1, b.2.2)
 
-routes_late_event : Refused bill (Post 3 (Ok tt) ∷ took (Named 3) [] 0 ∷ [])
+routes_late_event : Refused bill (Post 3 (Ok tt) ∷ took (Named 3) (0 ∷ []) 1 ∷ [])
 routes_late_event t h =
-    let e : Some (Completion 0) ≡ Some (Named 3) = (turned bill _ t h 1 (Named 3) [] 0 refl).event in
+    let e : Some (Completion 0) ≡ Some (Named 3) = (turned bill _ t h 1 (Named 3) (0 ∷ []) 1 refl).event in
     cc
 
 makes_up_orders : Refused bill (took (Completion 0) (0 ∷ []) 5 ∷ [])
@@ -125,6 +125,21 @@ refuses_event t h = let e = answered bill _ t h 0 (Post 3 (Err EventsWaiting)) r
 
 takes_any_report : Refused bill (Report 1 (Ok tt) ∷ [])
 takes_any_report t h = let e = answered bill _ t h 0 (Report 1 (Ok tt)) refl in cc
+
+knows_no_order : Refused bill (took (Completion 0) (0 ∷ []) 1 ∷ Report 1 (Err OrderNotOpen) ∷ [])
+knows_no_order t h = let e = answered bill _ t h 1 (Report 1 (Err OrderNotOpen)) refl in cc
+
+guard_holds : (n : ℕ) → n < 3 → guarded.source 1 n ≡ true → count (λ y. guarded.source y n && no_later (λ e. 0) y 1) [] ≡ available guarded (routed (Completion 1) (account guarded (opening 100 no_facts) (Tell 0 (Some 7) (Ok Changed) ∷ took (Completion 0) (0 ∷ []) 0 ∷ []))) n → ⊥
+guard_holds zero l s e = cc
+guard_holds (suc zero) l s e = omega arith
+guard_holds (suc (suc zero)) l s e = cc
+guard_holds (suc (suc (suc n))) l s e = omega arith
+
+leaves_guarded_edge : Refused guarded (Tell 0 (Some 7) (Ok Changed) ∷ took (Completion 0) (0 ∷ []) 0 ∷ took (Completion 1) [] 0 ∷ [])
+unfolding least
+leaves_guarded_edge t h =
+    let x = (turned guarded _ t h 2 (Completion 1) [] 0 refl).choice.left 1 (omega arith) (omega arith) in
+    guard_holds x.0 x.1 x.2 x.3
 
 -- FACTS, ORDERS AND CLOCKS
 
@@ -187,6 +202,8 @@ wrong_runs = record {
   makes_up_orders = makes_up_orders;
   refuses_event = refuses_event;
   takes_any_report = takes_any_report;
+  knows_no_order = knows_no_order;
+  leaves_guarded_edge = leaves_guarded_edge;
   forgets_fact = forgets_fact;
   never_reaches_desk = never_reaches_desk;
   forgets_order = forgets_order;

@@ -12,5 +12,6 @@ pub mod Calls
 pub mod Accounts
 pub mod RunLaw
 pub mod Samples
+pub mod Limits
 pub mod WrongRuns
 pub mod Questions

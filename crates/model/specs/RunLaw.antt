@@ -34,7 +34,9 @@ module _ (c : Graph) (rank : ℕ → ℕ) (a : State) where
     pub choice : MayTake done.event ys
     pub orders : done.orders ≡ new_orders c ys
     pub fits : overflow c (moved c ys (routed done.event a)) ≡ None
-    pub few : done.edges ≤ 64
+    -- there are 64 tokens at most
+    pub few_edges : done.edges ≤ 64
+    pub few_orders : done.orders ≤ 64
 
   -- a turn that was refused: what it might have taken is too much
   pub record FairRefusal (e : Refusal) : Type 0 where
@@ -93,7 +95,7 @@ module _ (c : Graph) {P : Type 0} (rank : P → ℕ → ℕ) (moves : P → ℕ 
     -- each attribute has the value that it was told last, else that of the opening; the moment is that of the last tick, else that of the opening
     pub told : (b : ℕ) → b < length facts → slice_index_or t.facts b None ≡ last_told b (slice_index_or facts b None) xs
     pub now : t.moment ≡ last_ticked moment xs
-    -- all of that before each call too
+    -- and the case is sound before each call: tokens and clocks balance, queues stand in order, and no bound is passed
     pub always : (k : ℕ) → Sound c (account c (opening moment facts) (take k xs))
     pub few_tokens : total t.tokens c.nodes ≤ 64
     pub few_events : length t.events ≤ 256

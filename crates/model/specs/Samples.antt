@@ -2,7 +2,7 @@
 use Rattle.std.specs.Prelude.{◌≡◌, ℕ, List, [], ◌∷◌, ◌++◌, length, take, map, replicate, Some, None, Ok, Err, Option, cond, ◌==◌, Bool, true, false, slice_set}
 use Rattle.layout.specs.declared.parts.Condition.{Condition}
 use Rattle.layout.specs.declared.parts.Condition.TheVariants.{Equal, AtLeast, LessThan, Absent, HoldsToken}
-use Rattle.layout.specs.declared.parts.Guard.TheVariants.{One}
+use Rattle.layout.specs.declared.parts.Guard.TheVariants.{One, Two}
 use Rattle.chart.specs.declared.edge.Cause.TheVariants.{Plain, Event, After, At}
 use Rattle.chart.specs.declared.edge.Edge.{Edge}
 use Rattle.chart.specs.Edges.{raw_of}
@@ -191,6 +191,44 @@ two_dated = record {
   orders = [];
 }
 
+-- AN EDGE THAT SENDS, AND WHOSE GUARD WATCHES A NODE
+
+abbrev pub sending_edges : List Edge
+sending_edges =
+    record { cause = Plain; guard = None; send = None; sources = record { bits = 1 }; targets = record { bits = 6 } }
+    ∷ record { cause = Plain; guard = Some (One (HoldsToken 3)); send = Some 5; sources = record { bits = 2 }; targets = record { bits = 16 } }
+    ∷ record { cause = Event 3; guard = Some (One (HoldsToken 1)); send = None; sources = record { bits = 4 }; targets = record { bits = 8 } }
+    ∷ []
+
+abbrev pub sending : Graph
+sending =
+    graph_of
+    (record { activity = None } ∷ record { activity = None } ∷ record { activity = None } ∷ record { activity = None } ∷ record { activity = None } ∷ [])
+    sending_edges
+
+-- the watched node is final, so its entering brings a change and no completion; only plain edges watch
+abbrev pub sending_log : List Entry
+sending_log =
+    took (Completion 0) (0 ∷ []) 0
+    ∷ took (Completion 1) [] 0
+    ∷ took (Completion 2) [] 0
+    ∷ Post 3 (Ok tt)
+    ∷ took (Named 3) (2 ∷ []) 0
+    ∷ took (Node 3) (1 ∷ []) 0
+    ∷ took (Named 5) [] 0
+    ∷ idle
+    ∷ []
+
+-- completions leave before a change that came earlier, and the change before a named event that came earlier
+abbrev pub kinds_log : List Entry
+kinds_log = Post 3 (Ok tt) ∷ Tell 0 (Some 4) (Ok Changed) ∷ took (Completion 0) (0 ∷ []) 0 ∷ took (Completion 1) [] 0 ∷ took (Completion 2) [] 0 ∷ took (Attribute 0) [] 0 ∷ took (Named 3) (2 ∷ []) 0 ∷ []
+
+-- an edge whose guard asks for a token besides
+abbrev pub watching : Graph
+watching = graph_of
+    (record { activity = None } ∷ record { activity = None } ∷ record { activity = None } ∷ [])
+    (record { cause = Plain; guard = Some (Two (HoldsToken 1) (AtLeast 0 5)); send = None; sources = record { bits = 2 }; targets = record { bits = 4 } } ∷ [])
+
 -- the token waits, and the number is there
 abbrev pub ready : State
 ready = record {
@@ -240,6 +278,8 @@ pub record Samples : Type 0 where
   pub early : Run guarded alike unmoved (opening 100 no_facts) tt early_log (early_after 4) tt
   -- which events enable a plain edge with a guard and one without, a triggered edge, and a timed one
   pub plain_guarded : enabled_by guarded ready 1 ≡ 1 ∷ 0 ∷ 1 ∷ 0 ∷ 1 ∷ 0 ∷ 0 ∷ 0 ∷ 0 ∷ 0 ∷ 0 ∷ []
+  pub plain_watching : enabled_by watching ready 0 ≡ 1 ∷ 0 ∷ 1 ∷ 0 ∷ 1 ∷ 0 ∷ 1 ∷ 0 ∷ 0 ∷ 0 ∷ 0 ∷ []
+  pub watching_unknown : enabled_by watching (record ready { facts = no_facts }) 0 ≡ 0 ∷ 0 ∷ 0 ∷ 0 ∷ 0 ∷ 0 ∷ 0 ∷ 0 ∷ 0 ∷ 0 ∷ 0 ∷ []
   pub plain_alone : enabled_by guarded (opening 100 no_facts) 0 ≡ 1 ∷ 1 ∷ 1 ∷ 1 ∷ 1 ∷ 1 ∷ 1 ∷ 1 ∷ 1 ∷ 1 ∷ 1 ∷ []
   pub triggered : enabled_by bill two_bills 2 ≡ 0 ∷ 0 ∷ 0 ∷ 0 ∷ 0 ∷ 0 ∷ 0 ∷ 2 ∷ 0 ∷ 0 ∷ 0 ∷ []
   pub timed : enabled_by bill two_bills 3 ≡ 0 ∷ 0 ∷ 0 ∷ 0 ∷ 0 ∷ 0 ∷ 0 ∷ 0 ∷ 0 ∷ 1 ∷ 0 ∷ []
@@ -252,3 +292,7 @@ pub record Samples : Type 0 where
   pub dates : Run dated alike unmoved (opening 100 no_facts) tt dated_log (dated_after 9) tt
   pub dated_clock : (dated_after 1).clocks ≡ runs_until 1 105 ∷ []
   pub dated_once : enabled dated (Ring 1) two_dated 1 ≡ 1
+  -- a change of a node enables what watches it; events leave by their kinds
+  pub sending_rules : Rules sending
+  pub sends : Run sending alike unmoved (opening 100 no_facts) tt sending_log (account sending (opening 100 no_facts) sending_log) tt
+  pub by_kind : Run sending alike unmoved (opening 100 no_facts) tt kinds_log (account sending (opening 100 no_facts) kinds_log) tt

@@ -5,7 +5,7 @@ use Rattle.layout.specs.declared.parts.Guard.TheVariants.{One}
 use Rattle.chart.specs.declared.edge.Cause.TheVariants.{Plain, After}
 use Rattle.chart.specs.declared.edge.Edge.{Edge}
 use Rattle.model.specs.declared.event.Event.TheVariants.{Completion, Termination, Named, Ring}
-use Rattle.model.specs.declared.refusal.Refusal.TheVariants.{EventsWaiting}
+use Rattle.model.specs.declared.refusal.Refusal.TheVariants.{EventsWaiting, OrderNotOpen}
 use Rattle.model.specs.declared.call.Change.TheVariants.{Changed}
 use Rattle.model.specs.declared.call.Entry.{Entry}
 use Rattle.model.specs.declared.call.Entry.TheVariants.{Post, Tell, Report, Tick}
@@ -14,7 +14,7 @@ use Rattle.model.specs.State.{State}
 use Rattle.model.specs.Calls.{opening, Run}
 use Rattle.model.specs.Accounts.{account}
 use Rattle.model.specs.RunLaw.{RunLaw}
-use Rattle.model.specs.Samples.{no_facts, alike, unmoved, took, idle, bill}
+use Rattle.model.specs.Samples.{no_facts, alike, unmoved, took, idle, bill, guarded}
 
 -- the log obeys the law, from an opening at 100 on, and the case is `t` now
 abbrev pub Obeys : Graph → List Entry → State → Type 0
@@ -59,6 +59,18 @@ by_number p e = e
 abbrev pub counting : ℕ → ℕ → ℕ → Type 0
 counting p e q = q ≡ suc p
 
+-- TWO EDGES FOR ONE TOKEN
+
+abbrev pub rival_edges : List Edge
+rival_edges =
+    record { cause = Plain; guard = None; send = None; sources = record { bits = 1 }; targets = record { bits = 2 } }
+    ∷ record { cause = Plain; guard = None; send = None; sources = record { bits = 2 }; targets = record { bits = 4 } }
+    ∷ record { cause = Plain; guard = None; send = None; sources = record { bits = 2 }; targets = record { bits = 8 } }
+    ∷ []
+
+abbrev pub rivals : Graph
+rivals = graph_of (record { activity = None } ∷ record { activity = None } ∷ record { activity = None } ∷ record { activity = None } ∷ []) rival_edges
+
 -- A CLOCK THAT COMES DUE WHILE ITS GUARD IS FALSE
 
 abbrev pub held_edges : List Edge
@@ -94,21 +106,25 @@ pub record WrongRuns : Type 0 where
   pub takes_one_copy : Refused split (joined_log (3 ∷ []))
   -- the log with both edges and both copies is one of a case
   pub takes_both : Run split alike unmoved (opening 100 no_facts) tt (joined_log (3 ∷ 3 ∷ [])) (account split (opening 100 no_facts) (joined_log (3 ∷ 3 ∷ []))) tt
-  -- it takes an edge that is not enabled, or one token twice
-  pub takes_waiting_edge : Refused bill (took (Completion 0) (2 ∷ []) 0 ∷ [])
-  pub takes_token_twice : Refused bill (took (Completion 0) (0 ∷ 0 ∷ []) 2 ∷ [])
+  -- it takes an edge that is not enabled, or one token for two edges that are
+  pub takes_waiting_edge : Refused bill (sent_log (took (Completion 2) (2 ∷ []) 0 ∷ []))
+  pub takes_token_twice : Refused rivals (took (Completion 0) (0 ∷ []) 0 ∷ took (Completion 1) (1 ∷ 2 ∷ []) 0 ∷ [])
   -- it does not keep the order of the edges, by their numbers or by the policy's ranks
   pub mixes_edges : Refused split (split_log (2 ∷ 1 ∷ []))
   pub ignores_ranks : (t : State) → RunLaw split backwards unmoved 100 no_facts tt (split_log (1 ∷ 2 ∷ [])) t tt → ⊥
   -- it does not tell the policy of an edge
   pub tells_no_policy : (t : State) → RunLaw split by_number counting 100 no_facts 0 (split_log (1 ∷ 2 ∷ [])) t 2 → ⊥
   -- it routes an event before one that goes first
-  pub routes_late_event : Refused bill (Post 3 (Ok tt) ∷ took (Named 3) [] 0 ∷ [])
+  pub routes_late_event : Refused bill (Post 3 (Ok tt) ∷ took (Named 3) (0 ∷ []) 1 ∷ [])
   -- it says that more orders were opened than were
   pub makes_up_orders : Refused bill (took (Completion 0) (0 ∷ []) 5 ∷ [])
   -- OTHER CALLS: it refuses an event without cause, or takes a report of an order that is not open
   pub refuses_event : Refused bill (Post 3 (Err EventsWaiting) ∷ [])
   pub takes_any_report : Refused bill (Report 1 (Ok tt) ∷ [])
+  -- or it refuses a report of an order that was given out, since its desk never had it
+  pub knows_no_order : Refused bill (took (Completion 0) (0 ∷ []) 1 ∷ Report 1 (Err OrderNotOpen) ∷ [])
+  -- a fact was told that makes a guard true, and its edge is left out, since its book forgot the fact
+  pub leaves_guarded_edge : Refused guarded (Tell 0 (Some 7) (Ok Changed) ∷ took (Completion 0) (0 ∷ []) 0 ∷ took (Completion 1) [] 0 ∷ [])
   -- FACTS AND ORDERS: its book forgets a fact
   pub forgets_fact : (t : State) → t.facts ≡ no_facts → Obeys bill (Tell 0 (Some 7) (Ok Changed) ∷ []) t → ⊥
   -- the order for an action node that was entered never reaches its desk

@@ -34,7 +34,7 @@ pub fn of_charts(chart: &Chart)
 // open order or a waiting report, or is finished; the open orders are those given out and not reported; each event that was put waits or
 // was answered; the facts and the moment are those told and ticked last; and each timed edge has as many clocks as it is relevant.
 // Two such logs of the same calls since the same opening, with the same policy before each call, have the same event and the same edges
-// at each turn (`Decides`). On every case for which all of that holds, each call has an answer (`GoesOn`).
+// at each turn (`Decides`). On every sound case, and each case of a run is sound, each call has an answer (`GoesOn`).
 pub fn of_runs<P: Policy>(chart: &Chart)
     ensures obeyed { LawOfRuns (graph_of chart.now.nodes.items chart.now.edges.items) P.rank P.moves }
     ensures decides { Decides P.rank P.moves }

@@ -1,15 +1,17 @@
 // Worked examples: of reading a chart, of a packed record of facts, of cases, and of logs that the law of runs refuses.
 ghost use Rattle.chart.specs.Samples.{Samples as ReadingSamples};
 ghost use Rattle.facts.specs.Record.{WorkedExample};
+ghost use Rattle.model.specs.Limits.{Limits};
 ghost use Rattle.model.specs.Samples.{Samples};
 ghost use Rattle.model.specs.WrongRuns.{WrongRuns};
 
-// Each is worked out by the definitions that the contracts of the calls cite.
-#[tactic(auto, using(facts::specs::Records::worked_example, crate::proofs::SampleRuns::samples))]
+// Each is worked out by the definitions that the contracts of the calls cite; so are both sides of each limit (`Limits`).
+#[tactic(auto, using(facts::specs::Records::worked_example, crate::proofs::SampleRuns::samples, crate::proofs::SampleRuns::limits))]
 pub fn worked_examples()
     ensures reading { ReadingSamples }
     ensures facts { WorkedExample }
     ensures cases { Samples }
+    ensures limits { Limits }
 {
     let _bytes = chart::samples::bill();
 }
