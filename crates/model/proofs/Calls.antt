@@ -31,7 +31,7 @@ module _ (c : Graph) where
       clocks = λ e. grind (arith, none_relevant c rules (available c (opening moment facts)) none_available e);
       ordered = refl;
       queued = refl;
-      silent = (refl, tt);
+      all_can_wait = (refl, tt);
       given = tt;
       active = tt;
       rising = tt;
@@ -49,7 +49,7 @@ module _ (c : Graph) where
     clocks = k.clocks;
     ordered = k.ordered;
     queued = w.queued k.queued;
-    silent = w.silent k.silent;
+    all_can_wait = w.all_can_wait k.all_can_wait;
     given = k.given;
     active = k.active;
     rising = k.rising;
@@ -66,7 +66,7 @@ module _ (c : Graph) where
     clocks = k.clocks;
     ordered = k.ordered;
     queued = k.queued;
-    silent = k.silent;
+    all_can_wait = k.all_can_wait;
     given = k.given;
     active = k.active;
     rising = k.rising;
@@ -88,7 +88,7 @@ module _ (c : Graph) where
         clocks = k.clocks;
         ordered = k.ordered;
         queued = queued_put ev s.events k.queued;
-        silent = all_put (λ x. can_wait x ≡ true) ev s.events refl k.silent;
+        all_can_wait = all_put (λ x. can_wait x ≡ true) ev s.events refl k.all_can_wait;
         given = r.under;
         active = r.active;
         rising = r.rising;

@@ -7,7 +7,7 @@ use Rattle.std.proofs.lemmas.Bool.{and_parts, and_from, and_right, eq-eqb, eqb-t
 use Rattle.std.proofs.lemmas.Bool.Decides.{nat_tests}
 use Rattle.bag.specs.Records.{in_order}
 use Rattle.model.specs.Ranks.{clock_before, clock_tagged, same_state}
-use Rattle.model.specs.Clocks.{of_edge, spent_of, running_of, count_of, fewer, more, started, edge_followed, followed, above, rising, is_timed, owed}
+use Rattle.model.specs.Clocks.{of_edge, spent_of, running_of, count_of, fewer, more, started, edge_followed, followed, above, rising, is_timed, expected}
 use Rattle.model.specs.ClockLaws.{Counted, Turn, EdgeFollowed, Followed, Sorted, LawsOfFollowing, by_deadline}
 use Rattle.model.specs.Graph.{Timed}
 use Rattle.model.specs.declared.clock.Clock.{Clock}
@@ -155,7 +155,7 @@ module _ (moment : ℕ) (b m e : ℕ → ℕ) where
 
     -- where only the first edges have followed, an edge has no more clocks than it was relevant before or is after
     within : (xs : List Timed) (cs : List Clock) (i : ℕ) → rising xs ≡ true → Counted xs b cs → ((n : ℕ) → b n ≤ 64) → ((n : ℕ) → e n ≤ 64)
-        → (n : ℕ) → count_of n (followed moment b m e (take i xs) cs) ≤ owed xs (λ _. 64) n
+        → (n : ℕ) → count_of n (followed moment b m e (take i xs) cs) ≤ expected xs (λ _. 64) n
     within xs cs i r h low high n = grind (arith, h n, low n, high n, timed_take i n xs, count_followed (take i xs) cs n (rising_take i xs r))
 
 -- HOW MANY CLOCKS THERE ARE AT MOST
@@ -166,13 +166,13 @@ count_without n k [] = grind arith
 count_without n k (c ∷ cs) = grind (arith, nat_tests, count_without n k cs)
 
 -- at most 64 of each edge, and none of another
-length_within : (xs : List Timed) (cs : List Clock) → ((n : ℕ) → count_of n cs ≤ owed xs (λ _. 64) n) → length cs ≤ length xs * 64
+length_within : (xs : List Timed) (cs : List Clock) → ((n : ℕ) → count_of n cs ≤ expected xs (λ _. 64) n) → length cs ≤ length xs * 64
 length_within [] [] h = omega arith
 length_within [] (c ∷ cs) h = grind (arith, h c.edge, eq-eqb c.edge c.edge refl)
 length_within (x ∷ xs) cs h =
     let n = x.edge in
     let rest = filter (λ c. not (of_edge n c)) cs in
-    let left : (k : ℕ) → count_of k rest ≤ owed xs (λ _. 64) k = λ k. grind (arith, count_without n k cs, h k) in
+    let left : (k : ℕ) → count_of k rest ≤ expected xs (λ _. 64) k = λ k. grind (arith, count_without n k cs, h k) in
     grind (arith, h n, eq-eqb n n refl, length_within xs rest left, length-filter_both (of_edge n) (λ c. not (of_edge n c)) (λ _. refl) cs)
 
 module _ (moment : ℕ) (b m e : ℕ → ℕ) (xs : List Timed) (cs : List Clock) (turn : Turn xs b m e) (agree : Counted xs b cs) where
@@ -193,15 +193,15 @@ module _ (moment : ℕ) (b m e : ℕ → ℕ) (xs : List Timed) (cs : List Clock
       ap (λ ys. followed moment b m e ys cs) (take_more xs k d l) ∙ followed_push moment b m e (take k xs) x cs in
       omega (arith, length_more (started moment x) j mid, length_more (started moment x) (e n - m n) mid, ap length next, fits (k + 1))
 
-  none_owed : (ds : List Clock) → Counted xs e ds → (n : ℕ) → e n ≡ 0 → filter (of_edge n) ds ≡ []
-  none_owed ds h n z = nil_from_length (filter (of_edge n) ds) (grind (arith, h n))
+  none_expected : (ds : List Clock) → Counted xs e ds → (n : ℕ) → e n ≡ 0 → filter (of_edge n) ds ≡ []
+  none_expected ds h n z = nil_from_length (filter (of_edge n) ds) (grind (arith, h n))
 
   follows : in_order clock_before cs ≡ true → Followed moment b m e xs cs
   follows o =
       let now = counted moment b m e turn.falls turn.rises xs cs turn.rise agree in
       record {
         counted = now;
-        none = none_owed (followed moment b m e xs cs) now;
+        none = none_expected (followed moment b m e xs cs) now;
         each = each_edge moment b m e xs cs turn.rise o;
         others = λ n. other_edges moment b m e n (of_edge n) (λ c g. g) xs cs;
         fits = fits;

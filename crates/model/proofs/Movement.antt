@@ -58,7 +58,7 @@ module _ (c : Graph) (rules : Rules c) where
             (counted_routed s.moment s.clocks s.events (timed c) (relevant_to c s) k.ordered k.clocks);
         ordered = ordered_routed s.moment s.clocks s.events k.ordered;
         queued = queued_tail s.events k.queued;
-        silent = all_tail (λ x. can_wait x ≡ true) s.events k.silent;
+        all_can_wait = all_tail (λ x. can_wait x ≡ true) s.events k.all_can_wait;
         given = k.given;
         active = k.active;
         rising = k.rising;
@@ -118,7 +118,7 @@ module _ (c : Graph) where
             clocks = clocks_follow.counted;
             ordered = clocks_follow.ordered;
             queued = events.queued k.queued;
-            silent = events.silent k.silent;
+            all_can_wait = events.all_can_wait k.all_can_wait;
             given = given.under;
             active = given.active;
             rising = given.rising;

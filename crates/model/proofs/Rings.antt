@@ -7,7 +7,7 @@ use Rattle.bag.specs.Records.{none_before, in_order}
 use Rattle.bag.proofs.Records.{order_put_in, put_in_place}
 use Rattle.model.specs.Ranks.{clock_before}
 use Rattle.model.specs.Clocks.{of_edge, count_of, due_by, rings, spent, after_ring}
-use Rattle.model.specs.ClockLaws.{Rang, Quiet, Ringing, RingsOnce}
+use Rattle.model.specs.ClockLaws.{Rang, NoneDue, Ringing, RingsOnce}
 use Rattle.model.specs.declared.clock.ClockState.TheVariants.{Running}
 use Rattle.model.specs.declared.clock.Clock.{Clock}
 use Rattle.model.proofs.Filters.{length_filter_put}
@@ -33,8 +33,8 @@ module _ (moment : ℕ) (c : Clock) (cs : List Clock) (o : in_order clock_before
     is = rw e (put_in_place clock_before asymmetric transitive (spent c) cs parts.1);
   }
 
-  quiet : rings c.state (due_by moment c) ≡ false → Quiet moment (c ∷ cs)
-  quiet e =
+  none_due : rings c.state (due_by moment c) ≡ false → NoneDue moment (c ∷ cs)
+  none_due e =
       let here : c.state ≡ Running → moment < c.deadline = λ r. grind (arith, nat_tests) in
       record { none = (here, later c (suc moment) here cs parts.0); same = rw e }
 
@@ -43,7 +43,7 @@ module _ (moment : ℕ) (c : Clock) (cs : List Clock) (o : in_order clock_before
 
   ring_first : Ringing moment (c ∷ cs)
   ring_first = record {
-    rang = ⊎_elim (λ e. rw e (rang e)) (λ e. rw e (quiet e)) (cases_Bool (rings c.state (due_by moment c)));
+    rang = ⊎_elim (λ e. rw e (rang e)) (λ e. rw e (none_due e)) (cases_Bool (rings c.state (due_by moment c)));
     counts = counts;
     length = grind (arith, length_put (spent c) cs);
     ordered = grind (arith, order_put_in clock_before asymmetric transitive (spent c) cs);

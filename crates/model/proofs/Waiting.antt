@@ -39,19 +39,19 @@ queued_put ev es o = order_put_in event_before before_asymmetric before_transiti
 -- from one bag of events to the next as many reports wait at each node, and no ring does
 pub record Kept (es fs : List Event) : Type 0 where
   pub reports : (n : ℕ) → reports_at n fs ≡ reports_at n es
-  pub silent : AllByRecursion (λ x. can_wait x ≡ true) es → AllByRecursion (λ x. can_wait x ≡ true) fs
+  pub all_can_wait : AllByRecursion (λ x. can_wait x ≡ true) es → AllByRecursion (λ x. can_wait x ≡ true) fs
   pub queued : in_order event_before es ≡ true → in_order event_before fs ≡ true
 
 pub kept_same : (es : List Event) → Kept es es
-kept_same es = record { reports = λ n. refl; silent = λ a. a; queued = λ o. o }
+kept_same es = record { reports = λ n. refl; all_can_wait = λ a. a; queued = λ o. o }
 
 pub kept_then : (es fs gs : List Event) → Kept es fs → Kept fs gs → Kept es gs
-kept_then es fs gs k l = record { reports = λ n. l.reports n ∙ k.reports n; silent = λ a. l.silent (k.silent a); queued = λ o. l.queued (k.queued o) }
+kept_then es fs gs k l = record { reports = λ n. l.reports n ∙ k.reports n; all_can_wait = λ a. l.all_can_wait (k.all_can_wait a); queued = λ o. l.queued (k.queued o) }
 
 pub kept_put : (ev : Event) (es : List Event) → can_wait ev ≡ true → ((n : ℕ) → terminates ev n ≡ false) → Kept es (put_in event_before ev es)
 kept_put ev es w h = record {
   reports = λ n. grind (arith, reports_put n ev es, h n);
-  silent = all_put (λ x. can_wait x ≡ true) ev es w;
+  all_can_wait = all_put (λ x. can_wait x ≡ true) ev es w;
   queued = queued_put ev es;
 }
 

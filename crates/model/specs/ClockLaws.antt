@@ -1,20 +1,20 @@
 -- What holds of clocks that ring and follow. Assumes nothing.
-use Rattle.std.specs.Prelude.{◌≡◌, ℕ, ◌-◌, ◌<◌, ◌≤◌, Bool, true, false, not, List, [], ◌∷◌, ◌++◌, length, get_or, take, drop, Some, None, filter, Option, slice_index_or}
+use Rattle.std.specs.Prelude.{◌≡◌, ℕ, ◌-◌, ◌<◌, ◌≤◌, Bool, true, false, not, List, [], ◌∷◌, ◌++◌, length, get_or, take, drop, Some, None, filter, Option, nat_lt, slice_index_or}
 use Rattle.std.specs.List.{AllByRecursion}
 use Rattle.bag.specs.Records.{in_order}
 use Rattle.model.specs.Ranks.{clock_before}
-use Rattle.model.specs.Clocks.{of_edge, spent_of, running_of, count_of, spent, rung, after_ring, fewer, more, started, followed, rising, is_timed, owed, leaving}
+use Rattle.model.specs.Clocks.{of_edge, spent_of, running_of, count_of, spent, rung, after_ring, fewer, more, started, followed, rising, is_timed, expected, leaving}
 use Rattle.model.specs.declared.clock.ClockState.TheVariants.{Running}
 use Rattle.model.specs.declared.clock.Clock.{Clock}
 use Rattle.model.specs.Graph.{Timed}
 
 -- each timed edge has as many clocks, running and spent together, as it is relevant, and no other edge has any
 abbrev pub Counted : List Timed → (ℕ → ℕ) → List Clock → Type 0
-Counted xs b cs = (n : ℕ) → count_of n cs ≡ owed xs b n
+Counted xs b cs = (n : ℕ) → count_of n cs ≡ expected xs b n
 
 -- the earlier deadline stands first
 abbrev pub by_deadline : Clock → Clock → Bool
-by_deadline x y = lib.Dec.ltb x.deadline y.deadline
+by_deadline x y = nat_lt x.deadline y.deadline
 
 -- what the relevance may be of: at most 64 before and after, and the middle is the lowest
 pub record Turn (xs : List Timed) (b m e : ℕ → ℕ) : Type 0 where
@@ -73,16 +73,16 @@ pub record Rang (moment : ℕ) (cs : List Clock) (c : Clock) : Type 0 where
   pub is : after_ring moment cs ≡ filter (λ y. not (clock_before (spent c) y)) rest ++ (spent c ∷ filter (clock_before (spent c)) rest)
 
 -- nothing rang: no running clock is due
-pub record Quiet (moment : ℕ) (cs : List Clock) : Type 0 where
+pub record NoneDue (moment : ℕ) (cs : List Clock) : Type 0 where
   pub none : AllByRecursion (λ d. d.state ≡ Running → moment < d.deadline) cs
   pub same : after_ring moment cs ≡ cs
 
-abbrev pub RangOrQuiet : ℕ → List Clock → Option Clock → Type 0
-RangOrQuiet moment cs None = Quiet moment cs
-RangOrQuiet moment cs (Some c) = Rang moment cs c
+abbrev pub RangOrNoneDue : ℕ → List Clock → Option Clock → Type 0
+RangOrNoneDue moment cs None = NoneDue moment cs
+RangOrNoneDue moment cs (Some c) = Rang moment cs c
 
 pub record Ringing (moment : ℕ) (cs : List Clock) : Type 0 where
-  pub rang : RangOrQuiet moment cs (rung moment cs)
+  pub rang : RangOrNoneDue moment cs (rung moment cs)
   pub counts : (n : ℕ) → count_of n (after_ring moment cs) ≡ count_of n cs
   pub length : lib.ListN.length (after_ring moment cs) ≡ lib.ListN.length cs
   pub ordered : in_order clock_before (after_ring moment cs) ≡ true

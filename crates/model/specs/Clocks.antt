@@ -85,8 +85,8 @@ abbrev pub is_timed : List Timed → ℕ → Bool
 is_timed xs n = list_any (λ x. x.edge == n) xs
 
 -- the clocks that an edge has by a relevance: as many as that if it is timed, else none
-abbrev pub owed : List Timed → (ℕ → ℕ) → ℕ → ℕ
-owed xs b n = cond (is_timed xs n) (b n) 0
+abbrev pub expected : List Timed → (ℕ → ℕ) → ℕ → ℕ
+expected xs b n = cond (is_timed xs n) (b n) 0
 
 -- the order in which an edge's clocks leave: the spent ones, then the running ones, each as the bag has them
 abbrev pub leaving : ℕ → List Clock → List Clock

@@ -15,8 +15,8 @@ abbrev pub waiting : ℕ → State
 waiting n = record ready { events = replicate n (Named 0); orders = record { number = 1; node = 1; activity = 7 } ∷ [] }
 
 -- nothing waits
-abbrev pub quiet : State
-quiet = record ready { tokens = λ n. 0 }
+abbrev pub none_due : State
+none_due = record ready { tokens = λ n. 0 }
 
 -- so many tokens and events, and this number for the next order
 abbrev pub filled : ℕ → ℕ → ℕ → State
@@ -34,7 +34,7 @@ pub record Limits : Type 0 where
   pub report_waiting : map (λ n. report_answer (waiting n) 1) (255 ∷ 256 ∷ []) ≡ Ok tt ∷ Err EventsFull ∷ []
   pub report_first : report_answer (waiting 256) 2 ≡ Err OrderNotOpen
   pub tick_moment : map (tick_answer ready) (99 ∷ 100 ∷ 4000000000 ∷ 4000000001 ∷ []) ≡ Err EarlierMoment ∷ Ok tt ∷ Ok tt ∷ Err LateMoment ∷ []
-  pub turn_room : map (λ n. turn guarded (alike tt) n quiet) (63 ∷ 64 ∷ []) ≡ Err ShortBuffer ∷ Ok None ∷ []
+  pub turn_room : map (λ n. turn guarded (alike tt) n none_due) (63 ∷ 64 ∷ []) ≡ Err ShortBuffer ∷ Ok None ∷ []
   pub turn_tokens : map (λ n. overflow guarded (filled n 0 1)) (64 ∷ 65 ∷ []) ≡ None ∷ Some TooManyTokens ∷ []
   pub turn_events : map (λ n. overflow guarded (filled 0 n 1)) (256 ∷ 257 ∷ []) ≡ None ∷ Some TooManyEvents ∷ []
   pub turn_orders : map (λ n. overflow guarded (filled 0 0 n)) (65536 ∷ 65537 ∷ []) ≡ None ∷ Some NoOrderNumber ∷ []

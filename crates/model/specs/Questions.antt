@@ -27,6 +27,12 @@ running_clocks c s e = cond (is_clocked (c.cause e)) (count_by (running_of e) s.
 abbrev pub spent_clocks : Graph → State → ℕ → ℕ
 spent_clocks c s e = cond (is_clocked (c.cause e)) (count_by (spent_of e) s.clocks) 0
 
+abbrev pub running_answer : Graph → State → ℕ → Result ℕ Refusal
+running_answer c s e = within c.edges e (running_clocks c s e)
+
+abbrev pub spent_answer : Graph → State → ℕ → Result ℕ Refusal
+spent_answer c s e = within c.edges e (spent_clocks c s e)
+
 abbrev pub found : Option Order → Result Order Refusal
 found o = ok_or o OrderNotOpen
 

@@ -66,7 +66,7 @@ pub record Sound (c : Graph) (s : State) : Type 0 where
   -- events and clocks stand in the order of leaving
   pub ordered : in_order clock_before s.clocks ≡ true
   pub queued : in_order event_before s.events ≡ true
-  pub silent : AllByRecursion (λ x. can_wait x ≡ true) s.events
+  pub all_can_wait : AllByRecursion (λ x. can_wait x ≡ true) s.events
   -- orders have the activity of their node, and numbers that were given out, each once
   pub given : AllByRecursion (λ o. o.number < s.next) s.orders
   pub active : AllByRecursion (λ o. c.activity o.node ≡ Some o.activity) s.orders
