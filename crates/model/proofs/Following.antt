@@ -8,7 +8,7 @@ use Rattle.std.proofs.lemmas.Bool.Decides.{nat_tests}
 use Rattle.bag.specs.Records.{in_order}
 use Rattle.model.specs.Ranks.{clock_before, clock_tagged, same_state}
 use Rattle.model.specs.Clocks.{of_edge, spent_of, running_of, count_of, fewer, more, started, edge_followed, followed, above, rising, is_timed, expected}
-use Rattle.model.specs.ClockLaws.{Counted, Turn, EdgeFollowed, Followed, Sorted, LawsOfFollowing, by_deadline}
+use Rattle.model.specs.ClockLaws.{Counted, FallThenRise, EdgeFollowed, Followed, ByDeadline, LawsOfFollowing, by_deadline}
 use Rattle.model.specs.Graph.{Timed}
 use Rattle.model.specs.declared.clock.Clock.{Clock}
 use Rattle.model.specs.declared.clock.ClockState.{ClockState}
@@ -175,7 +175,7 @@ length_within (x ∷ xs) cs h =
     let left : (k : ℕ) → count_of k rest ≤ expected xs (λ _. 64) k = λ k. grind (arith, count_without n k cs, h k) in
     grind (arith, h n, eq-eqb n n refl, length_within xs rest left, length-filter_both (of_edge n) (λ c. not (of_edge n c)) (λ _. refl) cs)
 
-module _ (moment : ℕ) (b m e : ℕ → ℕ) (xs : List Timed) (cs : List Clock) (turn : Turn xs b m e) (agree : Counted xs b cs) where
+module _ (moment : ℕ) (b m e : ℕ → ℕ) (xs : List Timed) (cs : List Clock) (turn : FallThenRise xs b m e) (agree : Counted xs b cs) where
   fits : (i : ℕ) → length (followed moment b m e (take i xs) cs) ≤ 1024
   fits i =
       let few = turn.few in
@@ -214,7 +214,7 @@ by_deadlines : (n : ℕ) (s : ClockState) (x y : Clock) → clock_tagged (record
     → clock_before y x ≡ false → by_deadline y x ≡ false
 by_deadlines n s x y h k a = grind (arith, nat_tests)
 
-sorted : (n : ℕ) (cs : List Clock) → in_order clock_before cs ≡ true → Sorted n cs
+sorted : (n : ℕ) (cs : List Clock) → in_order clock_before cs ≡ true → ByDeadline n cs
 sorted n cs o = record {
   spent = in_order_filter (spent_of n) clock_before by_deadline (by_deadlines n Spent) cs o;
   running = in_order_filter (running_of n) clock_before by_deadline (by_deadlines n Running) cs o;

@@ -9,7 +9,7 @@ use Rattle.model.specs.Choice.{total}
 use Rattle.model.specs.Ranks.{clock_before}
 use Rattle.model.specs.Graph.{Graph, Rules, Timed, entered, timed, relevance}
 use Rattle.model.specs.Clocks.{is_timed}
-use Rattle.model.specs.ClockLaws.{Counted, Turn, Followed}
+use Rattle.model.specs.ClockLaws.{Counted, FallThenRise, Followed}
 use Rattle.model.specs.State.{State, Sound, can_wait, terminates, reports_at, free, available, relevant_to}
 use Rattle.model.specs.Steps.{ring_of, event_in, event_of, clocks_routed, routed, leaving, entering, tokens_moved, finished_moved, between, moved, overflow}
 use Rattle.model.proofs.Waiting.{reports_cons, all_tail, queued_tail, kept_moved}
@@ -93,7 +93,7 @@ module _ (c : Graph) where
 
   module _ (rules : Rules c) (s : State) (xs : List ℕ) where
     -- relevance falls as tokens leave, and rises as they enter
-    moved_turn : Turn (timed c) (relevant_to c s) (relevance c (between c xs s)) (relevance c (free c (tokens_moved c xs s) (finished_moved c xs s)))
+    moved_turn : FallThenRise (timed c) (relevant_to c s) (relevance c (between c xs s)) (relevance c (free c (tokens_moved c xs s) (finished_moved c xs s)))
     moved_turn = record {
       falls = λ e. relevance_le c (between c xs s) (available c s) e (λ n l q. omega arith);
       rises = λ e. relevance_le c (between c xs s) (free c (tokens_moved c xs s) (finished_moved c xs s)) e (λ n l q. grind arith);

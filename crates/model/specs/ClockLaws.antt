@@ -3,7 +3,7 @@ use Rattle.std.specs.Prelude.{◌≡◌, ℕ, ◌-◌, ◌<◌, ◌≤◌, Bool,
 use Rattle.std.specs.List.{AllByRecursion}
 use Rattle.bag.specs.Records.{in_order}
 use Rattle.model.specs.Ranks.{clock_before}
-use Rattle.model.specs.Clocks.{of_edge, spent_of, running_of, count_of, spent, rung, after_ring, fewer, more, started, followed, rising, is_timed, expected, leaving}
+use Rattle.model.specs.Clocks.{of_edge, spent_of, running_of, count_of, spent, rung, after_ring, fewer, more, started, followed, rising, is_timed, expected, in_turn}
 use Rattle.model.specs.declared.clock.ClockState.TheVariants.{Running}
 use Rattle.model.specs.declared.clock.Clock.{Clock}
 use Rattle.model.specs.Graph.{Timed}
@@ -17,7 +17,7 @@ abbrev pub by_deadline : Clock → Clock → Bool
 by_deadline x y = nat_lt x.deadline y.deadline
 
 -- what the relevance may be of: at most 64 before and after, and the middle is the lowest
-pub record Turn (xs : List Timed) (b m e : ℕ → ℕ) : Type 0 where
+pub record FallThenRise (xs : List Timed) (b m e : ℕ → ℕ) : Type 0 where
   pub falls : (n : ℕ) → m n ≤ b n
   pub rises : (n : ℕ) → m n ≤ e n
   pub low : (n : ℕ) → b n ≤ 64
@@ -50,18 +50,18 @@ pub record Followed (moment : ℕ) (b m e : ℕ → ℕ) (xs : List Timed) (cs :
 
 -- a fall: what leaves is a front of the edge's clocks, the spent ones before the running ones; the clocks of the other edges stay
 pub record Fallen (n k : ℕ) (cs : List Clock) : Type 0 where
-  pub front : leaving n (fewer n k cs) ≡ drop k (leaving n cs)
+  pub front : in_turn n (fewer n k cs) ≡ drop k (in_turn n cs)
   pub others : filter (λ c. not (of_edge n c)) (fewer n k cs) ≡ filter (λ c. not (of_edge n c)) cs
 
 -- in each state the bag has an edge's clocks by deadline
-pub record Sorted (n : ℕ) (cs : List Clock) : Type 0 where
+pub record ByDeadline (n : ℕ) (cs : List Clock) : Type 0 where
   pub spent : in_order by_deadline (filter (spent_of n) cs) ≡ true
   pub running : in_order by_deadline (filter (running_of n) cs) ≡ true
 
 pub record LawsOfFollowing : Type 0 where
-  pub follows : (moment : ℕ) (b m e : ℕ → ℕ) (xs : List Timed) (cs : List Clock) → Turn xs b m e → in_order clock_before cs ≡ true → Counted xs b cs → Followed moment b m e xs cs
+  pub follows : (moment : ℕ) (b m e : ℕ → ℕ) (xs : List Timed) (cs : List Clock) → FallThenRise xs b m e → in_order clock_before cs ≡ true → Counted xs b cs → Followed moment b m e xs cs
   pub falls : (n k : ℕ) (cs : List Clock) → Fallen n k cs
-  pub sorted : (n : ℕ) (cs : List Clock) → in_order clock_before cs ≡ true → Sorted n cs
+  pub sorted : (n : ℕ) (cs : List Clock) → in_order clock_before cs ≡ true → ByDeadline n cs
 
 -- the clock `c` rang: it ran, and was due; no running clock has an earlier deadline; it is spent now, and the others are as they were
 pub record Rang (moment : ℕ) (cs : List Clock) (c : Clock) : Type 0 where

@@ -89,5 +89,5 @@ abbrev pub expected : List Timed → (ℕ → ℕ) → ℕ → ℕ
 expected xs b n = cond (is_timed xs n) (b n) 0
 
 -- the order in which an edge's clocks leave: the spent ones, then the running ones, each as the bag has them
-abbrev pub leaving : ℕ → List Clock → List Clock
-leaving n cs = filter (spent_of n) cs ++ filter (running_of n) cs
+abbrev pub in_turn : ℕ → List Clock → List Clock
+in_turn n cs = filter (spent_of n) cs ++ filter (running_of n) cs
