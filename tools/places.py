@@ -98,15 +98,9 @@ def skeleton(body):
     return " ".join(out)
 
 
-def heading(text):
-    print(f"\n## {text}")
-
-
-def listed(lines):
+def section(title, lines):
     lines = list(lines)
-    for line in lines:
-        print(line)
-    print(f"-- {len(lines)}")
+    print(f"\n## {title}", *lines, f"-- {len(lines)}", sep="\n")
 
 
 def grep(sources, pattern):
@@ -125,32 +119,23 @@ def main():
     everything = functions(sources)
     product = [f for f in everything if not re.match(r"crates/\w+_tests/", f.file)]
 
-    heading("1a enums")
-    listed(grep(sources, r"^\s*(pub(\(crate\))? )?enum "))
-    heading("1b functions that answer a number for a kind or a refusal, and fields that hold one")
-    listed(grep(sources, r"fn \w+\(.*\) -> (Option<)?u(8|16)\b|^\s*(number|rule): u8,"))
-    heading("2 functions alike but for names and literals (groups)")
+    section("1a enums", grep(sources, r"^\s*(pub(\(crate\))? )?enum "))
+    section("1b functions that answer a number for a kind or a refusal, and fields that hold one", grep(sources, r"fn \w+\(.*\) -> (Option<)?u(8|16)\b|^\s*(number|rule): u8,"))
     groups = {}
     for f in everything:
         if len(f.body) > 40:
             groups.setdefault(skeleton(f.body), []).append(f.where())
-    listed("  |  ".join(g) for g in groups.values() if len(g) > 1)
-    heading("3 loops")
-    listed(grep(sources, r"^\s*(for .* in |while |loop \{)"))
-    heading("4a functions that make a text of a value")
-    listed(grep(sources, r"-> (Result<String, AllocError>|&'static str)"))
-    heading("4b errors and other values turned into others by hand")
-    listed(grep(sources, r"Err\(\w*::?Memory\)|::Memory => |Err\(_\) => Err|fn (raise|edge_of|raw|refuse|of_nodes)\b"))
-    heading("4c equality and order by hand")
-    listed(grep(sources, r"fn (has_tag|ranks_before|is_same|same_\w+|stands_at)\b|\.\w+ == \w+\.\w+.*&&"))
-    heading("5a facts required in three or more functions")
+    section("2 functions alike but for names and literals (groups)", ("  |  ".join(g) for g in groups.values() if len(g) > 1))
+    section("3 loops", grep(sources, r"^\s*(for .* in |while |loop \{)"))
+    section("4a functions that make a text of a value", grep(sources, r"-> (Result<String, AllocError>|&'static str)"))
+    section("4b errors and other values turned into others by hand", grep(sources, r"Err\(\w*::?Memory\)|::Memory => |Err\(_\) => Err|fn (raise|edge_of|raw|refuse|of_nodes)\b"))
+    section("4c equality and order by hand", grep(sources, r"fn (has_tag|ranks_before|is_same|same_\w+|stands_at)\b|\.\w+ == \w+\.\w+.*&&"))
     facts = {}
     for f in product:
         for kind, clause in f.clauses:
             if kind == "requires":
                 facts.setdefault(normal(clause), []).append(f.where())
-    listed(f"{len(w)}x {fact}" for fact, w in facts.items() if len(w) >= 3)
-    heading("5b terms of forty letters or more that stand in the clauses of three or more functions")
+    section("5a facts required in three or more functions", (f"{len(w)}x {fact}" for fact, w in facts.items() if len(w) >= 3))
     terms = {}
     for f in product:
         seen = set()
@@ -160,19 +145,16 @@ def main():
                     seen.add(term)
         for term in seen:
             terms.setdefault(term, set()).add(f.where())
-    listed(f"{len(w)}x {term}" for term, w in terms.items() if len(w) >= 3)
-    heading("5c parameters that travel together in three or more functions")
+    section("5b terms of forty letters or more that stand in the clauses of three or more functions", (f"{len(w)}x {term}" for term, w in terms.items() if len(w) >= 3))
     pairs = {}
     for f in product:
         named = [p for p in f.parameters if not p.startswith("heap:")]
         for i, p in enumerate(named):
             for q in named[i + 1:]:
                 pairs.setdefault((p, q), []).append(f.where())
-    listed(f"{len(w)}x {p}, {q}" for (p, q), w in pairs.items() if len(w) >= 3)
-    heading("6 a length beside a buffer, arrays side by side, tables of fixed size")
-    listed(grep(sources, r"^\s*(pub(\(crate\))? )?(len|count|lines|columns): |_records: Vec|: \[.*; \w+\],|slots: &'a mut"))
-    heading("7 a switch on which step to run")
-    listed(grep(sources, r"\bstands: bool|sought: |fn breaks_rule|: fn\(|dyn "))
+    section("5c parameters that travel together in three or more functions", (f"{len(w)}x {p}, {q}" for (p, q), w in pairs.items() if len(w) >= 3))
+    section("6 a length beside a buffer, arrays side by side, tables of fixed size", grep(sources, r"^\s*(pub(\(crate\))? )?(len|count|lines|columns): |_records: Vec|: \[.*; \w+\],|slots: &'a mut"))
+    section("7 a switch on which step to run", grep(sources, r"\bstands: bool|sought: |fn breaks_rule|: fn\(|dyn "))
 
 
 main()
