@@ -1,9 +1,11 @@
 -- Parts that are in range pass the test for it.
-use Rattle.std.proofs.Common.{◌≡◌, ℕ, ◌≤◌, Bool, true, List, [], ◌∷◌, length, Some, None, Option, refl, le-leb, zero-le}
+use Rattle.std.proofs.Common.{◌≡◌, ℕ, ◌≤◌, Bool, true, List, [], ◌∷◌, length, Some, None, Option, refl, le-leb, zero-le, arith}
 use Rattle.std.specs.List.{list_all, AllByRecursion}
 use Rattle.std.proofs.lemmas.Bool.{and_from}
+use Rattle.std.proofs.lemmas.Bool.Decides.{nat_tests}
 use Rattle.layout.specs.Reader.{Parts}
 use Rattle.layout.specs.Layout.{OptIn, EdgeIn, InRange, conditions}
+use Rattle.layout.specs.declared.parts.Node.{Node}
 use Rattle.layout.specs.declared.parts.RawEdge.{RawEdge}
 use Rattle.layout.specs.Fits.{condition_fits}
 use Rattle.layout.proofs.Fits.{set-fits, condition-fits}
@@ -35,3 +37,7 @@ pub in_range_fits : (c : Parts) → InRange c → fits c.nodes c.edges ≡ true
 in_range_fits c h =
     and_from _ _ (and_from _ _ (and_from _ _ (le-leb 2 (length c.nodes) h.nodes_low) (le-leb (length c.nodes) 32 h.nodes_high)) (and_from _ _ (le-leb 1 (length c.edges) h.edges_low) (le-leb (length c.edges) 64 h.edges_high)))
     (and_from _ _ (all-fit node_fits (λ x. upto 63 x.activity) c.nodes h.nodes) (all-fit (edge_fits (length c.nodes)) (edge-fits (length c.nodes)) c.edges h.edges))
+
+-- a chart has at most 32 nodes and 64 edges
+pub counts-low : (ns : List Node) (es : List RawEdge) → fits ns es ≡ true → (length ns ≤ 32) × (length es ≤ 64)
+counts-low ns es e = (grind (arith, nat_tests), grind (arith, nat_tests))

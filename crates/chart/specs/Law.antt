@@ -1,7 +1,8 @@
 -- What making and reading a chart say.
-use Rattle.std.specs.Prelude.{◌≡◌, ℕ, ◌+◌, false, cond, List, map, length, take, Ok, Err, vec_items, Option, Result}
+use Rattle.std.specs.Prelude.{◌≡◌, ℕ, ◌+◌, true, false, cond, List, map, length, take, Ok, Err, vec_items, Vec, Option, Result}
 use Rattle.std.specs.declared.option.Option.TheVariants as option-of
 use Rattle.std.specs.List.{flat_map}
+use Rattle.std.specs.declared.alloc.Global.{Global}
 use Rattle.layout.specs.Reader.{Out, got, bad, Parts}
 use Rattle.layout.specs.Reader as reader
 use Rattle.layout.specs.Layout.{InRange, encode, node_bytes, edge_bytes}
@@ -12,6 +13,7 @@ use Rattle.layout.specs.declared.chart.RawChart.{RawChart}
 use Rattle.layout.specs.declared.parts.Node.{Node}
 use Rattle.layout.specs.declared.parts.RawEdge.{RawEdge}
 use Rattle.chart.specs.declared.chart.Chart.{Chart}
+use Rattle.chart.specs.declared.edge.Edge.{Edge}
 use Rattle.chart.specs.declared.rules.Rule.{Rule}
 use Rattle.chart.specs.declared.rules.Breach.{Breach}
 use Rattle.chart.specs.declared.refusal.Refusal.{Refusal}
@@ -40,6 +42,11 @@ Made ns es (Ok c) = (parts_of c ≡ record { nodes = ns; edges = es }) × (first
 Made ns es (Err unfit-of.OutOfRange) = fits ns es ≡ false
 Made ns es (Err (unfit-of.Broken b)) = (first_breach ns es ≡ option-of.Some b) × Lowest ns es b
 Made ns es (Err unfit-of.Memory) = Unit {0}
+
+-- what is said of their edges then: these, or why there is no chart
+abbrev pub Kept : List Node → List RawEdge → Result (Vec Edge Global) Unfit → Type 0
+Kept ns es (Ok v) = (map raw_of (vec_items v) ≡ es) × (fits ns es ≡ true) × (first_breach ns es ≡ option-of.None) × Keeps ns es
+Kept ns es (Err u) = Made ns es (Err u)
 
 -- where a record begins: behind the two counts and the records before it
 abbrev pub node_place : List Node → ℕ → ℕ
@@ -81,6 +88,12 @@ pub record Ready (raw : RawChart) : Type 0 where
 -- why they make no chart
 abbrev pub Misfits : RawChart → Unfit → Type 0
 Misfits raw u = Made (raw_parts raw).nodes (raw_parts raw).edges (Err u)
+
+-- how it is told that they make none
+abbrev pub told : Unfit → Parts → ReadError
+told unfit-of.OutOfRange c = Memory
+told (unfit-of.Broken b) c = Refused (Broken b.rule (record_place b.rule c.nodes c.edges b.index))
+told unfit-of.Memory c = Memory
 
 -- what judging them by the rules says
 abbrev pub Judges : RawChart → Result Chart ReadError → Type 0

@@ -127,8 +127,7 @@ impl PackedRecord {
     fn map(&self) -> u16
         ensures { result ≡ two_of self.now.bytes }
     {
-        let [high, low, ..] = self.bytes;
-        u16::from_be_bytes([high, low])
+        u16::from_be_bytes([self.bytes[0], self.bytes[1]])
     }
 
     // Whether the attribute has a number, which its bit of the map says.

@@ -91,7 +91,7 @@ within [] k bs e = let z : bs ≡ [] = cc in rw z (grind (arith, nat_tests))
 within (Err x ∷ s) k bs e = cc
 within (Ok m ∷ s) k bs e = one_more m s (said s) (within s) k bs e
 
-found : (text : List ℕ) (k : ℕ) (r : Option Mark) → nth k (scan start text) ≡ r → Finds text k (option_map (λ m. m.position) r)
+pub found : (text : List ℕ) (k : ℕ) (r : Option Mark) → nth k (scan start text) ≡ r → Finds text k (option_map (λ m. m.position) r)
 found text k (Some m) e = (record { mark = m; which = e; position = refl; stands = ahead text m start k e }, λ bs h. sym (ap is_some e) ∙ within (scan start text) k bs h)
 found text k None e = (tt, λ bs h. sym (ap is_some e) ∙ within (scan start text) k bs h)
 
@@ -99,9 +99,10 @@ itself : {A : Type 0} (r : Option A) → option_map (λ x. x) r ≡ r
 itself None = refl
 itself (Some x) = refl
 
--- the item that the bytes of a text have at the place tells where the byte stands
-pub sought : (text : List ℕ) (k : ℕ) (b c : Bytes) (item : Option (Result Mark TextError)) (r : Option Position) → left b ≡ scan start text → SkipsThenYields (YieldsFirst left) b k item c → r ≡ option_map (λ m. m.position) (option_and_then result_ok item) → record { exact : r ≡ position_of text k; law : Finds text k r }
+-- the item that the bytes of a text have at the place is the byte, if it is one
+pub sought : (text : List ℕ) (k : ℕ) (b c : Bytes) (item : Option (Result Mark TextError)) (r : Option Mark) → left b ≡ scan start text → SkipsThenYields (YieldsFirst left) b k item c → r ≡ option_and_then result_ok item
+    → record { exact : r ≡ nth k (scan start text); law : Finds text k (option_map (λ m. m.position) r) }
 sought text k b c item r all ran e =
     let at : option_map (λ x. x) item ≡ slice_get (scan start text) k = nth_from_yields_List item c k ran (YieldsList-from_first (λ x. x) left (scan start text) all) in
-    let there : nth k (scan start text) ≡ option_and_then result_ok item = ap (option_and_then result_ok) (sym at ∙ itself item) in
-    rw e record { exact = sym (ap (option_map (λ (m : Mark). m.position)) there); law = found text k (option_and_then result_ok item) there }
+    let there : r ≡ nth k (scan start text) = e ∙ sym (ap (option_and_then result_ok) (sym at ∙ itself item)) in
+    record { exact = there; law = found text k r (sym there) }

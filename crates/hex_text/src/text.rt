@@ -1,10 +1,11 @@
 // Reads and writes hexadecimal text.
 ghost use Rattle.std.specs.Prelude.{◌≡◌, IfOk, Ok, string_bytes};
+ghost use Rattle.std.specs.Option.{option_map};
 ghost use Rattle.hex_text.specs.Laws.{hex_of, Finds, Loose};
-ghost use Rattle.hex_text.specs.Meaning.{Reads, meaning, position_of};
+ghost use Rattle.hex_text.specs.Meaning.{Reads, meaning, nth, position_of, scan, start};
 ghost use Rattle.hex_text.specs.declared.text.TextError.TheVariants.{Memory};
 
-use super::reader::Bytes;
+use super::reader::{Bytes, Mark};
 use std::alloc::{AllocError, AllocFailed, Global};
 
 // Where a character stands in a text. Lines and columns count from 1; a column is a byte of the line.
@@ -61,8 +62,15 @@ pub fn position_of(text: &[u8], place: usize) -> Option<Position>
     ensures exact { result ≡ position_of text.now place }
     ensures law { Finds text.now place result }
 {
-    let byte = Bytes::of(text).nth(place)?.ok()?;
-    Some(byte.position)
+    byte_at(text, place).map(|byte| byte.position)
+}
+
+// Byte number `place` of those that the text says before its end or its first error.
+fn byte_at(text: &[u8], place: usize) -> Option<Mark>
+    ensures exact { result ≡ nth place (scan start text.now) }
+    ensures law { Finds text.now place (option_map (λ byte. byte.position) result) }
+{
+    Bytes::of(text).nth(place)?.ok()
 }
 
 // The bytes as hexadecimal text, two digits each.

@@ -131,10 +131,10 @@ module _ (bs : List ℕ) (b : Bytes bs) where
   range_judged x f low high i = then 0 x i (λ v j. tested (leb low v) (tested (leb v high) (gave v j) (refused f i)) (refused f i))
 
   nodes_blames : Blames bs (count 2 32) (item node_count one) (λ v. (2 ≤ v) × (v ≤ 32))
-  nodes_blames = item_blames bs b node_count (omega arith) (count_exact 2 32 (omega arith)) (λ xs h. (h.0, (h.1, h.2), h.3)) (2, (omega arith, omega arith)) (range_judged (byte_whole bs b) Count 2 32)
+  nodes_blames = item_blames bs b node_count (omega arith) (count_exact 2 32) (λ xs h. (h.0, (h.1, h.2), h.3)) (2, (omega arith, omega arith)) (range_judged (byte_whole bs b) Count 2 32)
 
   edges_blames : Blames bs (count 1 64) (item edge_count one) (λ v. (1 ≤ v) × (v ≤ 64))
-  edges_blames = item_blames bs b edge_count (omega arith) (count_exact 1 64 (omega arith)) (λ xs h. (h.0, (h.1, h.2), h.3)) (1, (omega arith, omega arith)) (range_judged (byte_whole bs b) Count 1 64)
+  edges_blames = item_blames bs b edge_count (omega arith) (count_exact 1 64) (λ xs h. (h.0, (h.1, h.2), h.3)) (1, (omega arith, omega arith)) (range_judged (byte_whole bs b) Count 1 64)
 
   activity_blames : Blames bs (field byte 0 63) (item sort.activity one) (λ v. v ≤ 63)
   activity_blames = item_blames bs b sort.activity (omega arith) activity_exact (λ xs h. h) (0, omega arith) (range_judged (byte_whole bs b) Field 0 63)

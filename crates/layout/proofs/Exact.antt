@@ -92,6 +92,10 @@ byte-only bs i v j b e =
 pub byte_exact : Exact byte one (λ v. v < 256)
 byte_exact = record { reads = λ bs i v t h e. byte_reads bs i v t e; only = byte-only }
 
+-- any number that is written so is read so, though it be no byte
+any_exact : Exact byte one (λ v. Unit {0})
+any_exact = record { reads = λ bs i v t h e. byte_reads bs i v t e; only = λ bs i v j b e. (tt, (byte-only bs i v j b e).1) }
+
 number-reads : (bs : List ℕ) (i v : ℕ) (t : List ℕ) → drop i bs ≡ wide v ++ t → (j : ℕ) × (number bs i ≡ got v j) × (drop j bs ≡ t)
 number-reads bs i v t e =
     let r1 = byte_reads bs i _ _ e in
@@ -136,8 +140,8 @@ ranged_exact {p} {enc} {In} f low high x fits =
           from_got (λ v j. ((low ≤ v) × (v ≤ high)) × (drop i bs ≡ enc v ++ drop j bs)) e3 ((leb-true low w l, leb-true w high u), (x.only bs i w k b r).1))));
     }
 
-pub count_exact : (low high : ℕ) → high < 256 → Exact (count low high) one (λ v. (low ≤ v) × (v ≤ high))
-count_exact low high h = ranged_exact Count low high byte_exact (λ v k. omega arith)
+pub count_exact : (low high : ℕ) → Exact (count low high) one (λ v. (low ≤ v) × (v ≤ high))
+count_exact low high = ranged_exact Count low high any_exact (λ v k. tt)
 
 pub map_exact : (low high : ℕ) → high < 256 → Exact (map_byte low high) one (λ v. (low ≤ v) × (v ≤ high))
 map_exact low high h = ranged_exact Map low high byte_exact (λ v k. omega arith)
@@ -433,8 +437,8 @@ chart-only bs c j b e =
     either (ltb j3 (length bs)) _ _ e3
     (λ w f. absurd (let z : ◌≡◌ {A = ℕ} 0 1 = cc in omega arith))
     (λ w f.
-    let f0 = (count_exact 2 32 (omega arith)).only bs 0 n j0 b r0 in
-    let f1 = (count_exact 1 64 (omega arith)).only bs j0 m j1 b r1 in
+    let f0 = (count_exact 2 32).only bs 0 n j0 b r0 in
+    let f1 = (count_exact 1 64).only bs j0 m j1 b r1 in
     let f2 = many_only node_exact n bs j1 ns j2 b r2 in
     let f3 = many_only (edge_exact n) m bs j2 es j3 b r3 in
     let none : drop j3 bs ≡ [] = drop_all j3 bs (ltb-false _ _ w) in
@@ -451,8 +455,8 @@ pub chart-reads : (bs : List ℕ) (c : Parts) → InRange c → bs ≡ encode c 
 chart-reads bs c h e =
     let n = length c.nodes in
     let m = length c.edges in
-    to ((count_exact 2 32 (omega arith)).reads bs 0 n (m ∷ (flat_map node_bytes c.nodes ++ (flat_map edge_bytes c.edges ++ []))) (h.nodes_low, h.nodes_high) (e ∙ simp append-nil)) (λ j0 p0 at0.
-    to ((count_exact 1 64 (omega arith)).reads bs j0 m (flat_map node_bytes c.nodes ++ (flat_map edge_bytes c.edges ++ [])) (h.edges_low, h.edges_high) at0) (λ j1 p1 at1.
+    to ((count_exact 2 32).reads bs 0 n (m ∷ (flat_map node_bytes c.nodes ++ (flat_map edge_bytes c.edges ++ []))) (h.nodes_low, h.nodes_high) (e ∙ simp append-nil)) (λ j0 p0 at0.
+    to ((count_exact 1 64).reads bs j0 m (flat_map node_bytes c.nodes ++ (flat_map edge_bytes c.edges ++ [])) (h.edges_low, h.edges_high) at0) (λ j1 p1 at1.
     to (many_reads node_exact bs j1 c.nodes (flat_map edge_bytes c.edges ++ []) h.nodes at1) (λ j2 p2 at2.
     to (many_reads (edge_exact n) bs j2 c.edges [] h.edges at2) (λ j3 p3 at3.
     on (count 2 32 bs 0) _ p0 (on (count 1 64 bs j0) _ p1 (on (many node n bs j1) _ p2 (on (many (edge n) m bs j2) _ p3 (no_on (ltb j3 (length bs)) _ _ (spent j3 bs at3) refl))))))))

@@ -35,7 +35,9 @@ impl Ranked for Clock {
     ghost transitive = { Prim.search rules };
 
     fn ranks_before(&self, other: &Clock) -> bool {
-        (self.state, self.deadline) < (other.state, other.deadline)
+        // By numbers: a bag asks this of each clock that it passes, and the order of a pair takes twice the time.
+        let (own, others) = (self.state as u8, other.state as u8);
+        own < others || (own == others && self.deadline < other.deadline)
     }
 }
 
@@ -45,10 +47,6 @@ impl Tagged for Clock {
     ghost tagged = { clock_tagged };
 
     fn has_tag(&self, tag: ClockTag) -> bool {
-        let own = ClockTag {
-            edge: self.edge,
-            state: self.state,
-        };
-        own == tag
+        self.edge == tag.edge && self.state == tag.state
     }
 }

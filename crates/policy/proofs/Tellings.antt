@@ -25,8 +25,13 @@ raised_then : (before mid : List ℕ) (e k n : ℕ) → k < 64 → Raised before
     → min most (get_or mid k 0 + n) ≡ min most (get_or before k 0 + (cond (eqb k e) 1 0 + n))
 raised_then before mid e k n h m = grind (arith, nat_tests, m k)
 
-pub counted : (p : EvenHand) (es : List ℕ) (q : EvenHand) → Told (λ a e b. Raised a.counts e b.counts) p es q → Counted p.counts es q.counts
-counted p [] q t k h = let l = p.ok.1 k in omega (arith, ap (λ x. get_or x.counts k 0) t)
-counted p (e ∷ es) q t k h =
-    counted t.0 es q t.2 k h ∙ raised_then p.counts t.0.counts e k (times k es) h t.1
-    ∙ ap (λ n. min most (get_or p.counts k 0 + n)) (sym (sum_by-cons (λ x. cond (eqb k x) 1 0) e es))
+-- any policy whose ranks are counts
+module _ {P : Type 0} (counts : P → List ℕ) (limited : (p : P) → Ranks most (counts p)) where
+  pub counted : (p : P) (es : List ℕ) (q : P) → Told (λ a e b. Raised (counts a) e (counts b)) p es q → Counted (counts p) es (counts q)
+  counted p [] q t k h = let l = (limited p).1 k in omega (arith, ap (λ x. get_or (counts x) k 0) t)
+  counted p (e ∷ es) q t k h =
+      counted t.0 es q t.2 k h ∙ raised_then (counts p) (counts t.0) e k (times k es) h t.1
+      ∙ ap (λ n. min most (get_or (counts p) k 0 + n)) (sym (sum_by-cons (λ x. cond (eqb k x) 1 0) e es))
+
+pub counted_evenly : (p : EvenHand) (es : List ℕ) (q : EvenHand) → Told (λ a e b. Raised a.counts e b.counts) p es q → Counted p.counts es q.counts
+counted_evenly = counted (λ x. x.counts) (λ x. x.ok)

@@ -48,7 +48,7 @@ impl Policy for EvenHand {
 }
 
 // Tells the even hand of each edge in turn: a rank is then the number of times, in all, that it was told of the edge.
-#[tactic(auto, using(crate::proofs::Tellings::counted))]
+#[tactic(auto, using(crate::proofs::Tellings::counted_evenly))]
 pub fn tell_evenly(hand: &mut EvenHand, edges: &[u8])
     ensures { Counted hand.old.counts edges.now hand.new.counts }
 {

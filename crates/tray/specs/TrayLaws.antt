@@ -1,7 +1,7 @@
 -- What the calls on a tray do to its orders and to its slots. Assumes nothing.
 use Rattle.std.specs.Prelude.{◌≡◌, ℕ, zero, suc, ◌==◌, cond, MatchOption, ◌+◌, ◌-◌, ◌<◌, ◌≤◌, List, [], ◌∷◌, ◌++◌, length, get_or, take, drop, replicate, Some, None, Ok, Option, slice_index_or, slice_range, slice_set, refl}
-use Rattle.std.proofs.Common.{⊎_elim, sym, ap, ◌∙◌, subst, arith, length-set, length-append, length-drop}
-use borrow.Rule.Slice.PartMut.{put_mid}
+use Rattle.std.proofs.Common.{⊎_elim, sym, ap, ◌∙◌, subst, arith, drop-cons, length-set, length-append, length-drop}
+use borrow.Rule.Slice.PartMut.{put_mid, mid_of}
 use lib.Dec.{ltb}
 use Rattle.std.specs.List.{remove, position_or_len}
 use Rattle.std.proofs.lemmas.Bool.{cases_lt, lt-ltb, le-ltb}
@@ -11,7 +11,7 @@ use Rattle.std.proofs.lemmas.List.{append_assoc, append-nil, set_split, set-get_
 use Rattle.std.proofs.lemmas.List.Edits.{length-remove, remove-append_left}
 use Rattle.std.proofs.lemmas.List.Folds.{find_at}
 use Rattle.std.proofs.lemmas.Option.{slice_get-get_or, slice_get_past}
-use Rattle.std.proofs.lemmas.Slice.{between_is, put_mid-rotated}
+use Rattle.std.proofs.lemmas.Slice.{between_is}
 use Rattle.desk.specs.declared.Order.{Order}
 use Rattle.desk.specs.Orders.{look_up, CanOpen, inserted, without, Opened, Closed}
 use Rattle.desk.specs.Sets.{sorted, Distinct}
@@ -109,8 +109,8 @@ module _ (slots : List Order) (len : ℕ) (f : Filled slots len) where
         rest = drop-set-lt (len + 1) slots len o (omega arith) ∙ sym (drop-drop 1 len slots) ∙ ap (drop 1) f.rest ∙ drop-replicate 1 (64 - len) blank ∙ ap (λ k. replicate k blank) next;
       }
 
-  -- the order at i is taken out: b is put there, and the slots from i on are turned left by one
-  module _ (i : ℕ) (b : Order) (ys : List Order) (inside : i < len) (e : b ≡ blank) (turned : ys ≡ drop 1 (slice_range (slice_set slots i b) i 64) ++ take 1 (slice_range (slice_set slots i b) i 64)) where
+  -- the order at i is taken out: b is put there, and the slots from i to n are turned left by one, which may reach into the blank ones
+  module _ (i n : ℕ) (b : Order) (ys : List Order) (inside : i < len) (reach : len ≤ n) (within : n ≤ 64) (e : b ≡ blank) (turned : ys ≡ drop 1 (mid_of i (n - i) (slice_set slots i b)) ++ take 1 (mid_of i (n - i) (slice_set slots i b))) where
     one_less : length (remove (take len slots) i) + 1 ≡ len
     one_less = length-remove (take len slots) i (omega (arith, length-arrived, inside)) ∙ length-arrived
 
@@ -120,21 +120,47 @@ module _ (slots : List Order) (len : ℕ) (f : Filled slots len) where
         ap (λ zs. zs ++ drop (suc i) (slice_set slots i b)) (take-set slots i b) ∙ ap (λ zs. take i slots ++ zs) (drop-set-lt (suc i) slots i b (omega arith)) ∙ ap (λ zs. remove zs i) (sym slots_back)
         ∙ remove-append_left (take len slots) (replicate (64 - length (take len slots)) blank) i (omega (arith, length-arrived, inside)) ∙ ap (λ k. remove (take len slots) i ++ replicate k blank) rest
 
-    slots_less : put_mid i (64 - i) (slice_set slots i b) ys ≡ slots_of (remove (take len slots) i)
+    -- a blank slot before those from n on is one behind them
+    blank_last : blank ∷ drop n (slice_set slots i b) ≡ drop n (slice_set slots i b) ++ blank ∷ []
+    blank_last =
+        let there : len + (n - len) ≡ n = omega arith in
+        let all : drop n (slice_set slots i b) ≡ replicate (64 - len - (n - len)) blank =
+        drop-set-lt n slots i b (omega arith) ∙ ap (λ k. drop k slots) (sym there) ∙ sym (drop-drop (n - len) len slots) ∙ ap (drop (n - len)) f.rest ∙ drop-replicate (n - len) (64 - len) blank in
+        let more : suc (64 - len - (n - len)) ≡ 64 - len - (n - len) + 1 = omega arith in
+        ap (λ zs. blank ∷ zs) all ∙ ap (λ k. replicate k blank) more ∙ replicate_next (64 - len - (n - len)) blank ∙ ap (λ zs. zs ++ blank ∷ []) (sym all)
+
+    slots_turned : put_mid i (n - i) (slice_set slots i b) ys ≡ remove (slice_set slots i b) i ++ blank ∷ []
+    slots_turned =
+        let xs = slice_set slots i b in
+        let at : i < length xs = omega (arith, length-set slots i b, f.long, f.few, inside) in
+        let here : get_or xs i b ≡ blank = get_or-set_same slots i b b (omega (arith, f.long, f.few, inside)) ∙ e in
+        let long : n - i ≡ suc (n - suc i) = omega arith in
+        let part : mid_of i (n - i) xs ≡ blank ∷ take (n - suc i) (drop (suc i) xs) =
+        ap (λ k. take k (drop i xs)) long ∙ ap (take (suc (n - suc i))) (drop-cons xs i b at) ∙ ap (λ o. o ∷ take (n - suc i) (drop (suc i) xs)) here in
+        let to : i + (n - i) ≡ n = omega arith in
+        let behind : drop (n - i) (drop i xs) ≡ drop n xs = drop-drop (n - i) i xs ∙ ap (λ k. drop k xs) to in
+        let also : suc i + (n - suc i) ≡ n = omega arith in
+        let rest : drop (n - suc i) (drop (suc i) xs) ≡ drop n xs = drop-drop (n - suc i) (suc i) xs ∙ ap (λ k. drop k xs) also in
+        let front : ys ≡ take (n - suc i) (drop (suc i) xs) ++ blank ∷ [] = turned ∙ ap (λ zs. drop 1 zs ++ take 1 zs) part in
+        let whole : take (n - suc i) (drop (suc i) xs) ++ drop n xs ≡ drop (suc i) xs =
+        ap (λ zs. take (n - suc i) (drop (suc i) xs) ++ zs) (sym rest) ∙ take-append-drop (n - suc i) (drop (suc i) xs) in
+        ap (λ zs. take i xs ++ (zs ++ drop (n - i) (drop i xs))) front ∙ ap (λ zs. take i xs ++ ((take (n - suc i) (drop (suc i) xs) ++ blank ∷ []) ++ zs)) behind
+        ∙ ap (λ zs. take i xs ++ zs) (append_assoc (take (n - suc i) (drop (suc i) xs)) (blank ∷ []) (drop n xs) ∙ ap (λ zs. take (n - suc i) (drop (suc i) xs) ++ zs) blank_last ∙ sym (append_assoc (take (n - suc i) (drop (suc i) xs)) (drop n xs) (blank ∷ [])) ∙ ap (λ zs. zs ++ blank ∷ []) whole)
+        ∙ sym (append_assoc (take i xs) (drop (suc i) xs) (blank ∷ []))
+
+    slots_less : put_mid i (n - i) (slice_set slots i b) ys ≡ slots_of (remove (take len slots) i)
     slots_less =
-        let within : i < length slots = omega (arith, f.long, f.few, inside) in
         let rest : 64 - len + 1 ≡ 64 - length (remove (take len slots) i) = omega (arith, one_less, f.few) in
-        put_mid-rotated i (64 - i) (slice_set slots i b) ys b (omega (arith, length-set slots i b, within)) (omega (arith, length-set slots i b, f.long)) turned
-        ∙ ap (λ zs. zs ++ get_or (slice_set slots i b) i b ∷ []) without_blank ∙ ap (λ o. (remove (take len slots) i ++ replicate (64 - len) blank) ++ o ∷ []) (get_or-set_same slots i b b within ∙ e)
+        slots_turned ∙ ap (λ zs. zs ++ blank ∷ []) without_blank
         ∙ append_assoc (remove (take len slots) i) (replicate (64 - len) blank) (blank ∷ []) ∙ ap (λ zs. remove (take len slots) i ++ zs) (sym (replicate_next (64 - len) blank)) ∙ ap (λ k. remove (take len slots) i ++ replicate k blank) rest
 
     less : len - 1 ≡ length (remove (take len slots) i)
     less = omega (arith, one_less)
 
-    pub filled_less : Filled (put_mid i (64 - i) (slice_set slots i b) ys) (len - 1)
+    pub filled_less : Filled (put_mid i (n - i) (slice_set slots i b) ys) (len - 1)
     filled_less = rw (slots_less, less) (filled_of (remove (take len slots) i) (omega (arith, one_less, f.few)) (distinct_removed (take len slots) i f.distinct))
 
-    pub arrived_less : take (len - 1) (put_mid i (64 - i) (slice_set slots i b) ys) ≡ remove (take len slots) i
+    pub arrived_less : take (len - 1) (put_mid i (n - i) (slice_set slots i b) ys) ≡ remove (take len slots) i
     arrived_less = rw (slots_less, less) (take_at (remove (take len slots) i) (replicate (64 - length (remove (take len slots) i)) blank) (length (remove (take len slots) i)) refl)
 
 -- the part from i to n is turned left by one: ps is that part, and ys what it becomes

@@ -89,9 +89,10 @@ impl Tray {
         ensures taken { result ≡ slice_index_or self.old i BLANK }
         ensures left { self.new ≡ remove self.old i }
     {
-        self.len -= 1;
+        let len = self.len;
         let order = std::mem::replace(&mut self.slots[i], BLANK);
-        self.slots[i..].rotate_left(1);
+        self.slots[i..len].rotate_left(1);
+        self.len = len - 1;
         order
     }
 }
